@@ -1,0 +1,2 @@
+-- Table: the worked cases hold.
+pub mod Table

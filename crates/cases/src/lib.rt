@@ -1,0 +1,1 @@
+// Definitions and one theorem alone: the worked cases of the definitions below (specs/Cases.antt).

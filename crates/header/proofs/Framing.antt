@@ -1,0 +1,120 @@
+-- What every header has, and what the frame's definition is in each of its cases.
+use Prim.Native.Nat.{ℕ, _+_, _-_, _<_, _≤_}
+use mathlib.Core.Path.{_≡_, refl, sym, _∙_, ap}
+use mathlib.Core.Bool.{Bool, true, false, cond}
+use mathlib.Core.List.{List}
+use native.Mathlib.Nat.{add-assoc}
+use native.Mathlib.Omega.{arith}
+use lib.ListN.{length, drop, length-drop}
+use lib.Dec.{ltb, leb, eqb}
+use borrow.Author.Tests.{lt-ltb, le-ltb, ltb-true, ltb-false, le-leb, lt-leb, eq-eqb, ne-eqb}
+use Rattle.rules.specs.Ask.{over, _>>=_}
+use Rattle.rules.proofs.Asked.{over-bind}
+use Rattle.rules.proofs.Meets.{Meets, meets-cond, meets-over}
+use Rattle.header.specs.Kind.{known, timed, size}
+use Rattle.header.specs.Read.{Heading, refused, accepted, header, headerAt}
+use Rattle.header.specs.Frame.{Framing, unframed, framed, frame, frameAt}
+use Rattle.header.proofs.KnownTypes.{size-timed, size-plain}
+
+-- a header that is read is there whole; only refusal 1 is for want of octets
+pub record HeaderOk (b : Bool) (m : ℕ) (h : Heading) : Type 0 where
+  pub whole : h .number ≡ 0 → size (h .kind) ≤ m
+  pub all-there : (h .number ≡ 1 → ⊥) → b ≡ false
+
+pub header-ok : Meets HeaderOk false 0 header
+unfolding header
+header-ok = (
+  (
+    omega arith,
+    λ t. (
+      omega arith,
+      λ k. (
+        omega arith,
+        λ u. (
+          omega arith,
+          λ w.
+              meets-cond HeaderOk (known k) false 12 _ _
+              (λ e. meets-cond HeaderOk (timed k) false 12 _ _
+              (λ i. meets-cond HeaderOk (ltb w 4) false 12 _ _
+              (λ l. record { whole = λ z. absurd (omega arith); all-there = λ z. refl })
+              (λ l. (
+                (omega arith, λ us. record { whole = λ z. let y = size-timed k i in omega arith; all-there = λ z. refl }),
+                λ n d. record { whole = λ z. absurd (omega arith); all-there = λ z. absurd (z refl) },
+              )))
+              (λ i. record { whole = λ z. let y = size-plain k i in omega arith; all-there = λ z. refl }))
+              (λ e. record { whole = λ z. absurd (omega arith); all-there = λ z. refl }),
+        ),
+      ),
+    ),
+  ),
+  λ n d. record { whole = λ z. absurd (omega arith); all-there = λ z. absurd (z refl) },
+)
+
+-- a header that is read lies in the stream
+pub header-room : (s : List ℕ) → over s header .number ≡ 0 → size (over s header .kind) ≤ length s
+header-room s e =
+    let o = meets-over HeaderOk s false 0 header (omega arith) header-ok in
+    let w = o .holds .whole e in
+    let l = o .within in
+    omega arith
+
+module _ (s : List ℕ) (at : ℕ) where
+  -- the frame by the header that was read
+  frame-within : at ≤ length s → over (drop at s) (framed at (headerAt s at)) ≡ frameAt s at
+  unfolding frameAt frame headerAt
+  frame-within l = simp (le-ltb _ _ l) (sym (over-bind (drop at s) (framed at) header))
+
+  -- an offset is beyond the stream or not
+  by-place : {A : Type 0} → (length s < at → A) → (at ≤ length s → A) → A
+  by-place {A} f g = by-test (ltb (length s) at) refl
+    where
+      by-test : (t : Bool) → ltb (length s) at ≡ t → A
+      by-test true e = f (ltb-true _ _ e)
+      by-test false e = g (ltb-false _ _ e)
+
+  module _ (n : ℕ) (z : n ≡ 0 → ⊥) (e : refused n ≡ headerAt s at) where
+    refused-beyond : length s < at → unframed n ≡ frameAt s at
+    unfolding frameAt headerAt
+    refused-beyond l =
+        let q : refused n ≡ refused 8 = e ∙ simp (lt-ltb _ _ l) in
+        simp (lt-ltb _ _ l) (ap (λ (h : Heading). unframed (h .number)) q)
+
+    refused-within : at ≤ length s → unframed n ≡ frameAt s at
+    unfolding framed over
+    refused-within l = rw (← frame-within l, ← e, ne-eqb n 0 z)
+
+    pub frame-refused : unframed n ≡ frameAt s at
+    frame-refused = by-place refused-beyond refused-within
+
+  -- a header that was read at the offset
+  module _ {t k u w stored us : ℕ} (e : accepted t k u w stored us ≡ headerAt s at) where
+    not-beyond : length s < at → ⊥
+    unfolding headerAt
+    not-beyond l = let q : accepted t k u w stored us ≡ refused 8 = e ∙ simp (lt-ltb _ _ l) in let z : _≡_ {A = ℕ} 0 8 = ap (λ (h : Heading). h .number) q in omega arith
+
+    pub read-within : at ≤ length s
+    read-within = by-place (λ l. absurd (not-beyond l)) (λ l. l)
+
+    pub read-room : at + size k ≤ length s
+    unfolding headerAt
+    read-room =
+        let l : at ≤ length s = read-within in
+        let q : accepted t k u w stored us ≡ over (drop at s) header = e ∙ simp (le-ltb _ _ l) in
+        let r : size k ≤ length (drop at s) = rw (← q) at (header-room (drop at s)) refl in
+        let d = length-drop at s in
+        omega arith
+
+    pub frame-cut : (z : ℕ) → z ≡ size k → length s - (at + z) < stored → unframed 4 ≡ frameAt s at
+    unfolding framed over
+    frame-cut z i m =
+        let r = read-room in
+        let c : leb (size k + stored) (length (drop at s)) ≡ false = lt-leb (size k + stored) (length (drop at s)) (rw length-drop (omega arith)) in
+        rw (← frame-within read-within, ← e, c)
+
+    pub frame-whole : (z : ℕ) → z ≡ size k → stored ≤ length s - (at + z)
+        → record { head = accepted t k u w stored us; body = at + z; end = at + z + stored } ≡ frameAt s at
+    unfolding framed over
+    frame-whole z i m =
+        let r = read-room in
+        let c : leb (size k + stored) (length (drop at s)) ≡ true = le-leb (size k + stored) (length (drop at s)) (rw length-drop (omega arith)) in
+        rw (← frame-within read-within, ← e, c, i, add-assoc at (size k) stored)

@@ -1,0 +1,16 @@
+-- What a type alone decides (RFC 6396, 4 and 5; 01, Refusal numbers; Header and lengths).
+use Prim.Native.Nat.{ℕ}
+use mathlib.Core.Bool.{Bool, _||_, _&&_, cond}
+use lib.Dec.{leb, eqb}
+
+-- the types that are known: 0 to 13, 16, 17, 32, 33, 48 and 49
+unfoldable pub known : ℕ → Bool
+known k = leb k 13 || leb 16 k && leb k 17 || leb 32 k && leb k 33 || leb 48 k && leb k 49
+
+-- the types whose header has microseconds
+unfoldable pub timed : ℕ → Bool
+timed k = eqb k 17
+
+-- how many octets the header takes
+unfoldable pub size : ℕ → ℕ
+size k = cond (timed k) 16 12

@@ -1,0 +1,4 @@
+-- Numbers: reading and writing big-endian numbers. Stores: what stores leave in lent octets. Parts: parts of a list.
+pub mod Numbers
+pub mod Stores
+pub mod Parts

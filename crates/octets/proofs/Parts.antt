@@ -1,0 +1,36 @@
+-- Parts of octets: of a list, and as they are lent and come back.
+use Prim.Native.Nat.{ℕ, _+_, _-_, _<_, _≤_}
+use mathlib.Core.Path.{_≡_, refl, sym, _∙_, ap}
+use mathlib.Core.List.{List, [], _++_, append-nil}
+use native.Mathlib.Nat.{le-of-eq}
+use native.Mathlib.Omega.{arith}
+use lib.ListN.{length, getD, take, drop, length-take, length-drop, drop-of-length-le}
+use lib.Seq.{take-all, take-add, drop-drop, getD-take, getD-drop}
+use Rattle.octets.specs.Octets.{beAt, patch, part}
+use Rattle.octets.proofs.Numbers.{be-drop, be-take}
+use Rattle.octets.proofs.Stores.{patch-part, length-patch}
+
+pub length-part : (s : List ℕ) (at n : ℕ) → at + n ≤ length s → length (part s at n) ≡ n
+length-part s at n h = simp (length-take, length-drop) (omega arith)
+
+-- the part that is lent from at on is what is left
+pub part-rest : (s : List ℕ) (at : ℕ) → part s at (length s - at) ≡ drop at s
+part-rest s at = take-all (length s - at) (drop at s) (le-of-eq (length-drop at s))
+
+-- a part and the part straight after it
+pub part-join : (s : List ℕ) (at n m : ℕ) → part s at n ++ part s (at + n) m ≡ part s at (n + m)
+part-join s at n m = sym (take-add n m (drop at s) ∙ ap (λ (l : List ℕ). part s at n ++ take m l) (drop-drop n at s))
+
+-- an octet and a number of a part are those of the whole
+pub getD-part : (s : List ℕ) (at n i : ℕ) → i < n → getD (part s at n) i 0 ≡ getD s (at + i) 0
+getD-part s at n i h = getD-take n (drop at s) i 0 h ∙ getD-drop at s i 0
+
+pub be-part : (s : List ℕ) (at n i w : ℕ) → i + w ≤ n → beAt (part s at n) i w ≡ beAt s (at + i) w
+be-part s at n i w h = be-take (drop at s) n i w h ∙ be-drop s at i w
+
+-- stores in the part that was lent from e on, seen in the whole
+pub patch-rest : (s : List ℕ) (e at : ℕ) (bs : List ℕ) {t : List ℕ} → e ≤ length s → t ≡ patch (part s e (length s - e)) at bs
+    → take e s ++ (t ++ drop (length s - e) (drop e s)) ≡ patch s (e + at) bs
+patch-rest s e at bs h q =
+    let z : drop (length s - e) (drop e s) ≡ [] = drop-of-length-le (drop e s) (le-of-eq (length-drop e s)) in
+    rw (z, append-nil, q, part-rest s e) (patch-part s e at bs h)

@@ -1,0 +1,73 @@
+-- What stores leave in lent octets: one law for each run of stores, whatever is stored.
+use Prim.Native.Nat.{ℕ, zero, suc, _+_, _-_, _<_, _≤_, min}
+use mathlib.Core.Path.{_≡_, refl, sym, _∙_, ap}
+use mathlib.Core.List.{List, [], _∷_, _++_}
+use mathlib.Core.Bool.{Bool, true, false}
+use lib.Dec.{leb}
+use borrow.Author.Tests.{leb-true, leb-false}
+use native.Mathlib.Nat.{add-zero, zero-add, add-suc, suc-add}
+use native.Mathlib.Numerals.{add-one}
+use native.Mathlib.Omega.{arith}
+use lib.ListN.{length, getD, take, drop, set, take-append-drop}
+use lib.Seq.{sets, sets-eq, length-sets, set-out, take-suc, length-take-le, take-all}
+use Rattle.octets.specs.Octets.{patch}
+
+pub length-patch : (s : List ℕ) (at : ℕ) (bs : List ℕ) → length (patch s at bs) ≡ length s
+unfolding patch
+length-patch s at bs = length-sets s at bs
+
+-- a run of stores, and a second one straight after it
+pub patch-run : (xs ys s : List ℕ) (at : ℕ) → patch (patch s at xs) (at + length xs) ys ≡ patch s at (xs ++ ys)
+unfolding patch
+patch-run [] ys s at = rw add-zero
+patch-run (x ∷ xs) ys s at = rw (add-suc, ← suc-add) (patch-run xs ys (set s at x) (suc at))
+
+-- t is s after one run of k octets, and u is t after the next
+pub stores : (s : List ℕ) (at k : ℕ) (xs ys : List ℕ) {t u : List ℕ} → length xs ≡ k → t ≡ patch s at xs → u ≡ patch t (at + k) ys → u ≡ patch s at (xs ++ ys)
+stores s at k xs ys l p q = q ∙ rw (p, ← l) (patch-run xs ys s at)
+
+-- past the end nothing is stored
+pub patch-beyond : (s : List ℕ) (at : ℕ) (bs : List ℕ) → length s ≤ at → s ≡ patch s at bs
+unfolding patch
+patch-beyond s at [] h = refl
+patch-beyond s at (b ∷ bs) h = rw (set-out s at b h) (patch-beyond s (suc at) bs (omega arith))
+
+-- where there is room: what stood before, the octets, and what stood after
+pub patch-within : (s : List ℕ) (at : ℕ) (bs : List ℕ) → at + length bs ≤ length s → patch s at bs ≡ take at s ++ bs ++ drop (at + length bs) s
+unfolding patch
+patch-within s at bs h = sets-eq bs s at h
+
+pub patch-front : (s bs : List ℕ) → length bs ≤ length s → patch s 0 bs ≡ bs ++ drop (length bs) s
+patch-front s bs h = rw (patch-within s 0 bs (rw zero-add h), zero-add)
+
+-- stores in the part that starts at e, seen in the whole
+pub patch-part : (s : List ℕ) (e at : ℕ) (bs : List ℕ) → e ≤ length s → take e s ++ patch (drop e s) at bs ≡ patch s (e + at) bs
+unfolding patch
+patch-part s zero at bs h = rw zero-add
+patch-part [] (suc e) at bs h = absurd (let z : 1 ≤ 0 = omega arith in omega arith)
+patch-part (x ∷ s) (suc e) at bs h = rw suc-add (ap (λ (t : List ℕ). x ∷ t) (patch-part s e at bs (omega arith)) ∙ under bs s (e + at))
+  where
+    under : (bs s : List ℕ) (j : ℕ) → x ∷ sets s j bs ≡ sets (x ∷ s) (suc j) bs
+    under [] s j = refl
+    under (b ∷ bs) s j = under bs (set s j b) (suc j)
+
+-- one turn of a copy: the first i octets of src are stored, and then the next
+pub copy-turn : (s src : List ℕ) (at i : ℕ) {t : List ℕ} → i < length src → t ≡ patch s at (take i src) → set t (at + i) (getD src i 0) ≡ patch s at (take (i + 1) src)
+unfolding patch
+copy-turn s src at i h e =
+    let l : length (take i src) ≡ i = length-take-le i src (omega arith) in
+    rw (add-one, take-suc src i 0 h) (stores s at i (take i src) (getD src i 0 ∷ []) l e refl)
+
+-- a copy ends with src, or where the room does: what of src has no room is dropped
+pub copy-done : (s src : List ℕ) (at : ℕ) {t : List ℕ} {i m : ℕ} → i ≤ m → m ≤ i → m ≡ min (length s - at) (length src) → t ≡ patch s at (take i src) → t ≡ patch s at src
+copy-done s src at {t} {i} {m} u v h p = p ∙ by-test (leb (length src) i) refl
+  where
+    by-test : (t : Bool) → leb (length src) i ≡ t → patch s at (take i src) ≡ patch s at src
+    by-test true e = ap (patch s at) (take-all i src (leb-true _ _ e))
+    by-test false e =
+        let lt : i < length src = leb-false _ _ e in
+        let l : length (take i src) ≡ i = length-take-le i src (omega arith) in
+        let k : length (patch s at (take i src)) ≡ length s = length-patch s at (take i src) in
+        patch-beyond (patch s at (take i src)) (at + i) (drop i src) (omega arith)
+        ∙ stores s at i (take i src) (drop i src) l refl refl
+        ∙ ap (patch s at) (take-append-drop i src)
