@@ -7,10 +7,10 @@ use native.Mathlib.Nat.{add-assoc}
 use native.Mathlib.Omega.{arith}
 use lib.ListN.{length, drop, length-drop}
 use lib.Dec.{ltb, leb, eqb}
-use borrow.Author.Tests.{lt-ltb, le-ltb, ltb-true, ltb-false, le-leb, lt-leb, eq-eqb, ne-eqb}
+use borrow.Author.Tests.{lt-ltb, le-ltb, ltb-true, ltb-false, le-leb, lt-leb, ne-eqb, eqb-true, eqb-false}
 use Rattle.rules.specs.Ask.{over, _>>=_}
 use Rattle.rules.proofs.Asked.{over-bind}
-use Rattle.rules.proofs.Meets.{Meets, meets-cond, meets-over}
+use Rattle.rules.proofs.Meets.{Meets, meets-cond, meets-bind, meets-over}
 use Rattle.header.specs.Kind.{known, timed, size}
 use Rattle.header.specs.Read.{Heading, refused, accepted, header, headerAt}
 use Rattle.header.specs.Frame.{Framing, unframed, framed, frame, frameAt}
@@ -57,6 +57,28 @@ header-room s e =
     let w = o .holds .whole e in
     let l = o .within in
     omega arith
+
+-- a record that is framed at an offset lies there whole; only refusals 1 and 4 are for want of octets
+pub record FrameOk (at : ℕ) (b : Bool) (m : ℕ) (f : Framing) : Type 0 where
+  pub body : f .head .number ≡ 0 → f .body ≡ at + size (f .head .kind)
+  pub end : f .head .number ≡ 0 → f .end ≡ at + (size (f .head .kind) + f .head .stored)
+  pub room : f .head .number ≡ 0 → size (f .head .kind) + f .head .stored ≤ m
+  pub all-there : (f .head .number ≡ 1 → ⊥) → (f .head .number ≡ 4 → ⊥) → b ≡ false
+
+framed-ok : (at : ℕ) (b : Bool) (m : ℕ) (h : Heading) → HeaderOk b m h → Meets (FrameOk at) b m (framed at h)
+unfolding framed
+framed-ok at b m h o =
+    meets-cond (FrameOk at) (eqb (h .number) 0) b m _ _
+    (λ e. let z = eqb-true (h .number) 0 e in (
+      record { body = λ y. refl; end = λ y. refl; room = λ y. omega arith; all-there = λ x y. o .all-there x },
+      λ n d. record { body = λ y. absurd (omega arith); end = λ y. absurd (omega arith); room = λ y. absurd (omega arith); all-there = λ x y. absurd (y refl) },
+    ))
+    (λ e. let z = eqb-false (h .number) 0 e in
+    record { body = λ y. absurd (z y); end = λ y. absurd (z y); room = λ y. absurd (z y); all-there = λ x y. o .all-there x })
+
+pub frame-ok : (at : ℕ) → Meets (FrameOk at) false 0 (frame at)
+unfolding frame
+frame-ok at = meets-bind (FrameOk at) HeaderOk (framed at) (framed-ok at) false 0 header header-ok
 
 module _ (s : List ℕ) (at : ℕ) where
   -- the frame by the header that was read
@@ -118,3 +140,37 @@ module _ (s : List ℕ) (at : ℕ) where
         let r = read-room in
         let c : leb (size k + stored) (length (drop at s)) ≡ true = le-leb (size k + stored) (length (drop at s)) (rw length-drop (omega arith)) in
         rw (← frame-within read-within, ← e, c, i, add-assoc at (size k) stored)
+
+  -- a record that was framed at the offset
+  module _ (f : Framing) (e : f ≡ frameAt s at) (z : f .head .number ≡ 0) where
+    unframed-not : length s < at → ⊥
+    unfolding frameAt
+    unframed-not l =
+        let q : f ≡ unframed 8 = e ∙ simp (lt-ltb _ _ l) in
+        let y : f .head .number ≡ 8 = ap (λ (x : Framing). x .head .number) q in
+        omega arith
+
+    pub framed-within : at ≤ length s
+    framed-within = by-place (λ l. absurd (unframed-not l)) (λ l. l)
+
+    -- it is the frame of what is left from the offset on
+    pub framed-left : f ≡ over (drop at s) (frame at)
+    unfolding frameAt
+    framed-left = e ∙ simp (le-ltb _ _ framed-within)
+
+    -- where its body starts and ends
+    pub record Placed : Type 0 where
+      pub body : f .body ≡ at + size (f .head .kind)
+      pub end : f .end ≡ at + (size (f .head .kind) + f .head .stored)
+      pub room : f .end ≤ length s
+
+    pub framed-placed : Placed
+    framed-placed =
+        let o = meets-over (FrameOk at) (drop at s) false 0 (frame at) (omega arith) (frame-ok at) in
+        let h : FrameOk at (o .met) (o .bytes) f = rw framed-left (o .holds) in
+        let w = o .within in
+        let d = length-drop at s in
+        let l = framed-within in
+        let r = h .room z in
+        let i = h .end z in
+        record { body = h .body z; end = i; room = omega arith }

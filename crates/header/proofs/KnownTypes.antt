@@ -60,3 +60,10 @@ module _ (k : ℕ) where
 
   pub size-plain : timed k ≡ false → size k ≡ 12
   size-plain e = size-by false (sym e)
+
+  pub size-least : 12 ≤ size k
+  size-least = by-test (timed k) refl
+    where
+      by-test : (t : Bool) → timed k ≡ t → 12 ≤ size k
+      by-test true e = let z = size-timed e in omega arith
+      by-test false e = let z = size-plain e in omega arith

@@ -1,11 +1,13 @@
 -- What the reader's definition is in each of its cases.
 use Prim.Native.Nat.{ℕ, _-_, _<_, _≤_}
 use mathlib.Core.Path.{_≡_, refl, _∙_, ap}
-use mathlib.Core.Bool.{true, false}
+use mathlib.Core.Bool.{Bool, true, false}
 use mathlib.Core.List.{List}
 use lib.ListN.{length, drop, take}
 use Rattle.octets.proofs.Parts.{part-rest}
-use borrow.Author.Tests.{lt-ltb, le-ltb, le-leb, lt-leb}
+use lib.Dec.{leb, ltb}
+use native.Mathlib.Omega.{arith}
+use borrow.Author.Tests.{lt-ltb, le-ltb, le-leb, lt-leb, leb-true, ltb-false}
 use Rattle.octets.specs.Octets.{beAt}
 use Rattle.rules.specs.Ask.{over}
 use Rattle.header.specs.Kind.{known, timed}
@@ -55,3 +57,30 @@ module _ {s : List ℕ} {t k u w : ℕ} (f : Fields s t k u w) where
       pub header-timed : {us : ℕ} → 4 ≤ w → 16 ≤ length s → us ≡ beAt s 12 4 → accepted t k u w (w - 4) us ≡ over s header
       unfolding header over
       header-timed l m e = simp (le-leb _ _ (f .twelve), ← f .time, ← f .type, ← f .sub, ← f .wire, ← e, n, o, le-ltb _ _ l, le-leb _ _ m)
+
+-- a header that was read, by its two shapes
+pub data Shape (s : List ℕ) : Heading → Type 0 where
+  plain : 12 ≤ length s → known (beAt s 4 2) ≡ true → timed (beAt s 4 2) ≡ false
+      → Shape s (accepted (beAt s 0 4) (beAt s 4 2) (beAt s 6 2) (beAt s 8 4) (beAt s 8 4) 0)
+  extended : 16 ≤ length s → known (beAt s 4 2) ≡ true → timed (beAt s 4 2) ≡ true → 4 ≤ beAt s 8 4
+      → Shape s (accepted (beAt s 0 4) (beAt s 4 2) (beAt s 6 2) (beAt s 8 4) (beAt s 8 4 - 4) (beAt s 12 4))
+
+pub shape : (s : List ℕ) → over s header .number ≡ 0 → Shape s (over s header)
+unfolding header over
+shape s z = by-tests (leb 12 (length s)) (known (beAt s 4 2)) (timed (beAt s 4 2)) (ltb (beAt s 8 4) 4) (leb 16 (length s)) refl refl refl refl refl z
+  where
+    by-tests : (a b c d e : Bool) → leb 12 (length s) ≡ a → known (beAt s 4 2) ≡ b → timed (beAt s 4 2) ≡ c → ltb (beAt s 8 4) 4 ≡ d → leb 16 (length s) ≡ e
+        → over s header .number ≡ 0 → Shape s (over s header)
+    by-tests false b c d e p q r u v z = absurd (let y : _≡_ {A = ℕ} 1 0 = rw p at z in omega arith)
+    by-tests true false c d e p q r u v z = absurd (let y : _≡_ {A = ℕ} 2 0 = rw (p, q) at z in omega arith)
+    by-tests true true false d e p q r u v z = rw (p, q, r) (plain (leb-true _ _ p) q r)
+    by-tests true true true true e p q r u v z = absurd (let y : _≡_ {A = ℕ} 3 0 = rw (p, q, r, u) at z in omega arith)
+    by-tests true true true false true p q r u v z = rw (p, q, r, u, v) (extended (leb-true _ _ v) q r (ltb-false _ _ u))
+    by-tests true true true false false p q r u v z = absurd (let y : _≡_ {A = ℕ} 1 0 = rw (p, q, r, u, v) at z in omega arith)
+
+pub header-kind : (s : List ℕ) → over s header .number ≡ 0 → over s header .kind ≡ beAt s 4 2
+header-kind s z = by-shape (over s header) (shape s z)
+  where
+    by-shape : (h : Heading) → Shape s h → h .kind ≡ beAt s 4 2
+    by-shape h (plain l n e) = refl
+    by-shape h (extended l n e g) = refl

@@ -5,8 +5,8 @@ use mathlib.Core.Bool.{Bool, true, false}
 use mathlib.Core.List.{List, [], _++_, append-assoc}
 use native.Mathlib.Omega.{arith}
 use lib.ListN.{length, take, drop, length-append}
-use lib.Dec.{leb, ltb, eqb}
-use borrow.Author.Tests.{le-leb, le-ltb, leb-true, ltb-false, eqb-true, not-false}
+use lib.Dec.{leb}
+use borrow.Author.Tests.{le-leb, le-ltb, ltb-false, eqb-true, not-false}
 use Rattle.answer.specs.Writing.{Writing, refuse, atFront}
 use Rattle.octets.specs.Octets.{beAt, bytesOf, part, Octets}
 use Rattle.octets.proofs.Numbers.{be-of-field, bytes-of-be, be-lt, length-bytes}
@@ -19,7 +19,7 @@ use Rattle.header.specs.Back.{headerOf, InWidth}
 use Rattle.header.specs.declared.CommonHeader.{CommonHeader}
 use Rattle.header.specs.declared.WireLength.{WireLength}
 use Rattle.header.proofs.KnownTypes.{size-timed, size-plain}
-use Rattle.header.proofs.Reading.{Fields, header-plain, header-timed}
+use Rattle.header.proofs.Reading.{Fields, header-plain, header-timed, Shape, plain, extended, shape}
 use Rattle.header.proofs.Writing.{length-common, length-header, timed-octets, plain-octets}
 
 -- a header whose octets stand at the front is read
@@ -99,26 +99,6 @@ module _ (h : CommonHeader) (i : InWidth h) where
       by-tests true true c n f l z = absurd (let y : _≡_ {A = ℕ} 10 0 = rw (n, f) at z in omega arith)
       by-tests true false false n f l z = absurd (let y : _≡_ {A = ℕ} 9 0 = rw (n, f, l) at z in omega arith)
       by-tests true false true n f l z = rw (n, f, l) (sym (read-octets (drop (length (headerOctets h)) s) n f))
-
--- a header that was read, by its two shapes
-data Shape (s : List ℕ) : Heading → Type 0 where
-  plain : 12 ≤ length s → known (beAt s 4 2) ≡ true → timed (beAt s 4 2) ≡ false
-      → Shape s (accepted (beAt s 0 4) (beAt s 4 2) (beAt s 6 2) (beAt s 8 4) (beAt s 8 4) 0)
-  extended : 16 ≤ length s → known (beAt s 4 2) ≡ true → timed (beAt s 4 2) ≡ true → 4 ≤ beAt s 8 4
-      → Shape s (accepted (beAt s 0 4) (beAt s 4 2) (beAt s 6 2) (beAt s 8 4) (beAt s 8 4 - 4) (beAt s 12 4))
-
-shape : (s : List ℕ) → over s header .number ≡ 0 → Shape s (over s header)
-unfolding header over
-shape s z = by-tests (leb 12 (length s)) (known (beAt s 4 2)) (timed (beAt s 4 2)) (ltb (beAt s 8 4) 4) (leb 16 (length s)) refl refl refl refl refl z
-  where
-    by-tests : (a b c d e : Bool) → leb 12 (length s) ≡ a → known (beAt s 4 2) ≡ b → timed (beAt s 4 2) ≡ c → ltb (beAt s 8 4) 4 ≡ d → leb 16 (length s) ≡ e
-        → over s header .number ≡ 0 → Shape s (over s header)
-    by-tests false b c d e p q r u v z = absurd (let y : _≡_ {A = ℕ} 1 0 = rw p at z in omega arith)
-    by-tests true false c d e p q r u v z = absurd (let y : _≡_ {A = ℕ} 2 0 = rw (p, q) at z in omega arith)
-    by-tests true true false d e p q r u v z = rw (p, q, r) (plain (leb-true _ _ p) q r)
-    by-tests true true true true e p q r u v z = absurd (let y : _≡_ {A = ℕ} 3 0 = rw (p, q, r, u) at z in omega arith)
-    by-tests true true true false true p q r u v z = rw (p, q, r, u, v) (extended (leb-true _ _ v) q r (ltb-false _ _ u))
-    by-tests true true true false false p q r u v z = absurd (let y : _≡_ {A = ℕ} 1 0 = rw (p, q, r, u, v) at z in omega arith)
 
 -- the octets of the header that was read are the octets that stood there
 module _ (s : List ℕ) (o : Octets s) where

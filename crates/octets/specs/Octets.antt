@@ -1,6 +1,8 @@
 -- Octets and the numbers in them (RFC 6396, 2: all numbers in network byte order, the highest octet first).
 use Prim.Native.Nat.{ℕ, zero, suc, _+_, _*_, _/_, _%_, _<_}
 use mathlib.Core.List.{List, [], _∷_, _++_}
+use mathlib.Core.Bool.{Bool, true, _&&_}
+use lib.Dec.{eqb}
 use lib.ListN.{getD, take, drop}
 use lib.Seq.{sets}
 
@@ -21,6 +23,11 @@ patch s at bs = sets s at bs
 -- the n octets of s from at on, fewer where s ends
 abbrev pub part : List ℕ → ℕ → ℕ → List ℕ
 part s at n = take n (drop at s)
+
+-- the n octets of s from at on are all 255
+unfoldable pub ones : List ℕ → ℕ → ℕ → Bool
+ones s at zero = true
+ones s at (suc n) = ones s at n && eqb (getD s (at + n) 0) 255
 
 -- every element of s is an octet
 abbrev pub Octets : List ℕ → Type 0

@@ -1,0 +1,207 @@
+-- The candidate test in each of its cases, and that a candidate is a record that passes.
+use Prim.Native.Nat.{ℕ, _+_, _-_, _<_, _≤_}
+use mathlib.Core.Path.{_≡_, refl, sym, _∙_, ap}
+use mathlib.Core.Bool.{Bool, true, false, _&&_, and-false, not, cond}
+use mathlib.Core.List.{List}
+use native.Mathlib.Omega.{arith}
+use lib.ListN.{length, drop, length-drop}
+use lib.Dec.{leb, ltb, eqb}
+use borrow.Author.Tests.{lt-leb, le-leb, lt-ltb, le-ltb, leb-true, leb-false, eq-eqb, ne-eqb, eqb-true, eqb-false}
+use Rattle.answer.specs.Refusal.{numberOf}
+use Rattle.answer.proofs.Refusals.{number-not-zero}
+use Rattle.octets.specs.Octets.{beAt}
+use Rattle.octets.proofs.Numbers.{be-drop}
+use Rattle.rules.specs.Ask.{Ask, done, _>>=_, over, past}
+use Rattle.rules.proofs.Asked.{over-bind, over-past}
+use Rattle.rules.proofs.Meets.{meets-over}
+use Rattle.header.specs.Read.{Heading, refused, accepted, header, headerAt}
+use Rattle.header.specs.Frame.{Framing, framed, frame}
+use Rattle.header.proofs.Reading.{header-kind, header-short}
+use Rattle.checks.specs.Legacy.{legacy}
+use Rattle.checks.specs.Bgp4mp.{asSize, stateChange}
+use Rattle.walk.specs.Judged.{Judged, fit, off, cut, Candidate, stands, fails}
+use Rattle.walk.proofs.Sound.{Sound}
+use Rattle.judge.specs.Record.{verdict, judge, judgeAt, Judging, judging, judgement, judgementAt}
+use Rattle.judge.specs.Candidate.{family, evidence, plausible, standing, headed, candidate, candidateAt, takenUp}
+use Rattle.answer.specs.declared.Refusal.{Refusal}
+use Rattle.header.specs.declared.CommonHeader.{CommonHeader}
+use Rattle.header.specs.declared.WireLength.{WireLength}
+use Rattle.judge.specs.declared.JudgeAnswer.{JudgeAnswer}
+use Rattle.judge.specs.declared.JudgeAnswer.the-variants.{Record, Refused}
+use Rattle.judge.proofs.Soundness.{JudgedOk, judge-ok, judge-left, judge-beyond, inside, Inside}
+
+pub family-rest : (k : ℕ) → (k ≡ 5 → ⊥) → (k ≡ 16 → ⊥) → (k ≡ 17 → ⊥) → 0 ≡ family k
+unfolding family
+family-rest k a b c = simp (ne-eqb _ _ a, ne-eqb _ _ b, ne-eqb _ _ c)
+
+module _ (k u : ℕ) where
+  pub evidence-legacy : k ≡ 5 → 1 ≡ evidence k u
+  unfolding evidence
+  evidence-legacy e = simp (eq-eqb _ _ e)
+
+  pub evidence-states : (k ≡ 5 → ⊥) → stateChange u ≡ true → 3 ≡ evidence k u
+  unfolding evidence
+  evidence-states n e = simp (ne-eqb _ _ n, e)
+
+  pub evidence-marker : (k ≡ 5 → ⊥) → stateChange u ≡ false → 2 ≡ evidence k u
+  unfolding evidence
+  evidence-marker n e = simp (ne-eqb _ _ n, e)
+
+  evidence-small : evidence k u < 4
+  unfolding evidence
+  evidence-small = by-tests (eqb k 5) (stateChange u)
+    where
+      by-tests : (t v : Bool) → cond t 1 (cond v 3 2) < 4
+      by-tests true v = omega arith
+      by-tests false true = omega arith
+      by-tests false false = omega arith
+
+-- a judgement as a candidate, by its two cases
+pub taken-refused : (j : JudgeAnswer) {r : Refusal} → j ≡ Refused r → fails ≡ takenUp j
+unfolding takenUp
+taken-refused j e = rw e
+
+pub taken-record : (j : JudgeAnswer) {start body end : ℕ} {h : CommonHeader} {w : WireLength} → j ≡ Record start h w body end
+    → {f v : ℕ} → f ≡ family (h .kind) → v ≡ evidence (h .kind) (h .subtype) → stands f v end ≡ takenUp j
+unfolding takenUp
+taken-record j e p q = rw (e, p, q)
+
+-- what the header alone decides; f is its family
+module _ (k u n us : ℕ) {f : ℕ} (e : f ≡ family k) where
+  pub plausible-family : f ≡ 0 → false ≡ plausible k u n us
+  unfolding plausible
+  plausible-family z = simp (← e, eq-eqb _ _ z)
+
+  module _ (g : f ≡ 0 → ⊥) where
+    pub plausible-long : 65599 < n → false ≡ plausible k u n us
+    unfolding plausible
+    plausible-long l = simp (← e, ne-eqb _ _ g, lt-leb _ _ l)
+
+    module _ (l : n ≤ 65599) where
+      pub plausible-late : 1000000 ≤ us → false ≡ plausible k u n us
+      unfolding plausible
+      plausible-late m = simp (← e, ne-eqb _ _ g, le-leb _ _ l, le-ltb _ _ m)
+
+      module _ (m : us < 1000000) where
+        pub plausible-message : (k ≡ 5 → ⊥) → not (eqb (asSize u) 0) ≡ plausible k u n us
+        unfolding plausible
+        plausible-message i = simp (← e, ne-eqb _ _ g, le-leb _ _ l, lt-ltb _ _ m, ne-eqb _ _ i)
+
+        pub plausible-legacy : k ≡ 5 → {x : ℕ} → x ≡ legacy u n → eqb x 0 ≡ plausible k u n us
+        unfolding plausible
+        plausible-legacy i q = simp (← e, ne-eqb _ _ g, le-leb _ _ l, lt-ltb _ _ m, eq-eqb _ _ i, q)
+
+-- whether a header may begin a candidate
+abbrev begins : Heading → Bool
+begins h = eqb (h .number) 0 && plausible (h .kind) (h .subtype) (h .stored) (h .micros)
+
+-- the test by the header and the judgement
+pub candidate-over : (s : List ℕ) (at : ℕ) → over s (candidate at) ≡ cond (begins (over s header)) (standing (over s (judge at))) fails
+unfolding candidate headed judge frame over
+candidate-over s at =
+    over-bind s (headed at) header
+    ∙ by-test (begins (over s header))
+    ∙ ap (λ (j : Judged). cond (begins (over s header)) (standing j) fails) (sym (over-bind s verdict (header >>= framed at) ∙ ap (λ (f : Framing). over s (verdict f)) (over-bind s (framed at) header)))
+  where
+    by-test : (t : Bool) → over s (cond t (framed at (over s header) >>= verdict >>= λ j. done (standing j)) (done fails))
+        ≡ cond t (standing (over s (verdict (over s (framed at (over s header)))))) fails
+    by-test true = over-bind s _ (framed at (over s header) >>= verdict) ∙ ap standing (over-bind s verdict (framed at (over s header)))
+    by-test false = refl
+
+module _ (s : List ℕ) (p : ℕ) where
+  candidate-left : p ≤ length s → over s (candidateAt p) ≡ over (drop p s) (candidate p)
+  unfolding candidateAt
+  candidate-left l = over-past s p l (candidate p)
+
+  pub candidate-beyond : length s < p → fails ≡ over s (candidateAt p)
+  unfolding candidateAt candidate header headed past over _>>=_
+  candidate-beyond l = simp (lt-leb (p + 12) (length s) (omega arith))
+
+  module _ (l : p ≤ length s) where
+    -- a header that begins no candidate
+    not-begun : begins (over (drop p s) header) ≡ false → fails ≡ over s (candidateAt p)
+    not-begun e = rw (candidate-left l, candidate-over (drop p s) p, e)
+
+    pub candidate-short : length s - p < 12 → fails ≡ over s (candidateAt p)
+    candidate-short m =
+        let h : refused 1 ≡ over (drop p s) header = header-short (drop p s) (rw length-drop m) in
+        not-begun (rw (← h) refl)
+
+    pub candidate-other : {k f : ℕ} → k ≡ beAt s (p + 4) 2 → f ≡ family k → f ≡ 0 → fails ≡ over s (candidateAt p)
+    candidate-other {k} {f} e g z = not-begun (by-number (eqb (over (drop p s) header .number) 0) refl)
+      where
+        by-number : (t : Bool) → eqb (over (drop p s) header .number) 0 ≡ t → (t && plausible (over (drop p s) header .kind) (over (drop p s) header .subtype) (over (drop p s) header .stored) (over (drop p s) header .micros)) ≡ false
+        by-number true t =
+            let h : over (drop p s) header .kind ≡ k = header-kind (drop p s) (eqb-true _ _ t) ∙ be-drop s p 4 2 ∙ sym e in
+            sym (plausible-family (over (drop p s) header .kind) _ _ _ (g ∙ ap family (sym h)) z)
+        by-number false t = refl
+
+    -- the header that was read at the offset
+    module _ {h : Heading} (e : h ≡ headerAt s p) where
+      here : h ≡ over (drop p s) header
+      unfolding headerAt
+      here = e ∙ simp (le-ltb _ _ l)
+
+      pub candidate-unread : (h .number ≡ 0 → ⊥) → fails ≡ over s (candidateAt p)
+      candidate-unread n = not-begun (rw (← here, ne-eqb (h .number) 0 n))
+
+      pub candidate-implausible : plausible (h .kind) (h .subtype) (h .stored) (h .micros) ≡ false → fails ≡ over s (candidateAt p)
+      candidate-implausible n = not-begun (rw (← here, n, and-false))
+
+      pub candidate-judged : h .number ≡ 0 → plausible (h .kind) (h .subtype) (h .stored) (h .micros) ≡ true → standing (over (drop p s) (judge p)) ≡ over s (candidateAt p)
+      candidate-judged z y = rw (candidate-left l, candidate-over (drop p s) p, ← here, eq-eqb (h .number) 0 z, y)
+
+    -- what the code's judgement says of a candidate
+    taken-up-by : (j : JudgeAnswer) (x : Judged) (b : Bool) (m : ℕ) → JudgedOk p b m x → judging j ≡ judgement p x → takenUp j ≡ standing x
+    unfolding takenUp standing
+    taken-up-by (Record start h w body end) (fit f) b m o q = ap (λ (y : Judging). stands (family (y .frame .head .kind)) (evidence (y .frame .head .kind) (y .frame .head .subtype)) (y .frame .end)) q
+    taken-up-by (Record start h w body end) (off r e) b m o q = absurd (o .0 (ap (λ (y : Judging). y .frame .head .number) (sym q)))
+    taken-up-by (Record start h w body end) (cut r) b m o q = absurd (o .0 (ap (λ (y : Judging). y .frame .head .number) (sym q)))
+    taken-up-by (Refused r) (fit f) b m o q = absurd (number-not-zero r (ap (λ (y : Judging). y .frame .head .number) q ∙ o .0))
+    taken-up-by (Refused r) (off n e) b m o q = refl
+    taken-up-by (Refused r) (cut n) b m o q = refl
+
+    pub candidate-taken : (j : JudgeAnswer) → judging j ≡ judgementAt s p → takenUp j ≡ standing (over (drop p s) (judge p))
+    unfolding judgementAt
+    candidate-taken j q =
+        let o = meets-over (JudgedOk p) (drop p s) false 0 (judge p) (omega arith) (judge-ok p) in
+        taken-up-by j (over (drop p s) (judge p)) (o .met) (o .bytes) (o .holds) (q ∙ simp (le-ltb _ _ l))
+
+-- THEOREM. A candidate is a record that the judgement accepts, with the same end, and its evidence is 1, 2 or 3.
+pub record Accepted (s : List ℕ) (p v e : ℕ) : Type 0 where
+  pub frame : Framing
+  pub accepted : over s (judgeAt p) ≡ fit frame
+  pub same-end : frame .end ≡ e
+  pub small : v < 4
+
+pub candidate-accepted : (s : List ℕ) (p f v e : ℕ) → over s (candidateAt p) ≡ stands f v e → Accepted s p v e
+unfolding standing
+candidate-accepted s p f v e q = by-place (leb p (length s)) refl
+  where
+    by-judged : p ≤ length s → (j : Judged) → over (drop p s) (judge p) ≡ j → (t : Bool) → cond t (standing j) fails ≡ stands f v e → Accepted s p v e
+    by-judged l (off r x) z true q = absurd (let y : _≡_ {A = ℕ} 0 1 = cc in omega arith)
+    by-judged l (cut r) z true q = absurd (let y : _≡_ {A = ℕ} 0 1 = cc in omega arith)
+    by-judged l (off r x) z false q = absurd (let y : _≡_ {A = ℕ} 0 1 = cc in omega arith)
+    by-judged l (cut r) z false q = absurd (let y : _≡_ {A = ℕ} 0 1 = cc in omega arith)
+    by-judged l (fit g) z false q = absurd (let y : _≡_ {A = ℕ} 0 1 = cc in omega arith)
+    by-judged l (fit g) z true q =
+        let x : g .end ≡ e = cc in
+        let w : evidence (g .head .kind) (g .head .subtype) ≡ v = cc in
+        let y = evidence-small (g .head .kind) (g .head .subtype) in
+        record { frame = g; accepted = judge-left s p l ∙ z; same-end = x; small = omega arith }
+
+    by-place : (t : Bool) → leb p (length s) ≡ t → Accepted s p v e
+    by-place true t =
+        let l : p ≤ length s = leb-true _ _ t in
+        by-judged l (over (drop p s) (judge p)) refl (begins (over (drop p s) header)) (sym (candidate-over (drop p s) p) ∙ sym (candidate-left s p l) ∙ q)
+    by-place false t = absurd (let z = candidate-beyond s p (leb-false _ _ t) in let y : _≡_ {A = ℕ} 0 1 = cc in omega arith)
+
+-- the walk may rest on this judgement
+pub sound : Sound judgeAt candidateAt
+sound =
+    record {
+      fits = λ s p f q. rw q at (inside s p);
+      offs = λ s p r e q. rw q at (inside s p);
+      carried = λ s p f v e q. let a = candidate-accepted s p f v e q in (a .frame, a .accepted, a .same-end);
+      evidence = λ s p f v e q. candidate-accepted s p f v e q .small;
+    }

@@ -1,0 +1,41 @@
+// The body check by type.
+ghost use mathlib.Core.Path.{_≡_};
+ghost use Rattle.answer.specs.Refusal.{outcomeNumber};
+ghost use Rattle.judge.specs.Body.{check, tableDump};
+use answer::Outcome;
+use answer::Refusal;
+use peer::TableAnswer;
+
+// The body of a record of a known type, with its stored length.
+pub fn check_body(body: &[u8], kind: u16, subtype: u16, stored: u32) -> Outcome
+    ensures answer { λ r. ⌜ outcomeNumber r ≡ check kind subtype stored (now (body .entry)) ⌝ }
+{
+    match kind {
+        5 => checks::check_legacy(subtype, stored),
+        13 => check_table_dump(body, subtype),
+        16 => checks::check_bgp4mp(body, subtype),
+        17 => checks::check_bgp4mp(body, subtype),
+        _ => Outcome::Refused(Refusal::NotCarried),
+    }
+}
+
+// Type 13: a peer table that holds its peers, or a RIB with a readable head.
+fn check_table_dump(body: &[u8], subtype: u16) -> Outcome
+    ensures { λ r. ⌜ outcomeNumber r ≡ tableDump subtype (now (body .entry)) ⌝ }
+{
+    if subtype != 1 {
+        return rib::check_rib(body, subtype);
+    }
+    let t = peer::check_peers(body);
+    match t {
+        TableAnswer::Refused(r) => Outcome::Refused(r),
+        TableAnswer::Table {
+            collector: _,
+            name: _,
+            length: _,
+            count: _,
+            first: _,
+            end: _,
+        } => Outcome::Accepted,
+    }
+}

@@ -1,0 +1,114 @@
+-- One peer: the AS in its field, and what the reader and the writer answer in each case.
+use Prim.Native.Nat.{ℕ, zero, suc, _+_, _-_, _/_, _%_, _<_, _≤_}
+use mathlib.Core.Path.{_≡_, refl, sym, _∙_, ap}
+use mathlib.Core.List.{List, [], _∷_, _++_}
+use mathlib.Core.Bool.{Bool, true, false}
+use native.Mathlib.Nat.{add-assoc}
+use native.Mathlib.Omega.{arith}
+use borrow.Author.Tests.{lt-ltb, le-ltb, le-leb, lt-leb, eq-eqb, ne-eqb}
+use lib.ListN.{length, getD, length-append}
+use Rattle.octets.specs.Octets.{beAt, bytesOf, patch}
+use Rattle.octets.proofs.Numbers.{length-bytes}
+use Rattle.octets.proofs.Stores.{stores}
+use Rattle.peer.specs.Peer.{addressSize, asSize, peerSize, octetsAt, addressAt, peerAt, unread, readPeer, stored, keyOf, sameOctets, sameAddress, peerOctets, putPeer}
+use Rattle.peer.specs.declared.Peer.{Peer}
+use Rattle.peer.proofs.Sizes.{as-either, size-is}
+use Rattle.peer.proofs.Addresses.{length-octets}
+
+-- ---- the AS
+module _ (s : List ℕ) (at kind : ℕ) {w r : ℕ} (sized : w ≡ asSize kind) where
+  pub as-read-long : w ≡ 4 → r ≡ beAt s at 4 → r ≡ beAt s at (asSize kind)
+  as-read-long e h = h ∙ ap (beAt s at) (sym e ∙ sized)
+
+  pub as-read-short : (w ≡ 4 → ⊥) → r ≡ beAt s at 2 → r ≡ beAt s at (asSize kind)
+  as-read-short e h = h ∙ ap (beAt s at) (sym (as-either kind (λ z. e (sized ∙ z))))
+
+-- a number in two octets keeps what two octets hold of it
+bytes-cut : (v : ℕ) → bytesOf 2 (v % 65536) ≡ bytesOf 2 v
+unfolding bytesOf
+bytes-cut v =
+    let h : v % 65536 / 256 % 256 ≡ v / 256 % 256 = omega arith in
+    let l : v % 65536 % 256 ≡ v % 256 = omega arith in
+    rw (h, l)
+
+module _ (s : List ℕ) (at kind asn : ℕ) {w : ℕ} {t : List ℕ} (sized : w ≡ asSize kind) where
+  pub as-put-long : w ≡ 4 → t ≡ patch s at (bytesOf 4 asn) → t ≡ patch s at (bytesOf (asSize kind) asn)
+  as-put-long e h = h ∙ ap (λ (k : ℕ). patch s at (bytesOf k asn)) (sym e ∙ sized)
+
+  pub as-put-short : (w ≡ 4 → ⊥) → t ≡ patch s at (bytesOf 2 (asn % 65536)) → t ≡ patch s at (bytesOf (asSize kind) asn)
+  as-put-short e h = h ∙ ap (patch s at) (bytes-cut asn) ∙ ap (λ (k : ℕ). patch s at (bytesOf k asn)) (sym (as-either kind (λ z. e (sized ∙ z))))
+
+-- ---- the reader
+module _ (s : List ℕ) (at : ℕ) where
+  pub read-beyond : length s < at → unread 8 ≡ readPeer s at
+  unfolding readPeer
+  read-beyond h = simp (lt-ltb _ _ h)
+
+  module _ {k z : ℕ} (inside : at ≤ length s) (kind-is : k ≡ getD s at 0) (size-of : z ≡ peerSize k) where
+    pub read-short : length s - at < z → unread 7 ≡ readPeer s at
+    unfolding readPeer
+    read-short l =
+        let e : z ≡ peerSize (getD s at 0) = size-of ∙ ap peerSize kind-is in
+        let m : length s < at + peerSize (getD s at 0) = omega arith in
+        simp (le-ltb _ _ inside, lt-leb _ _ m)
+
+    pub read-whole : {a id asn : ℕ} {l : List ℕ} → z ≤ length s - at → a ≡ addressSize k → l ≡ addressAt s (at + 5) a → id ≡ beAt s (at + 1) 4
+        → asn ≡ beAt s (at + 5 + a) (asSize k) → record { number = 0; peer = record { kind = k; id = id; addr = l; asn = asn }; next = at + z } ≡ readPeer s at
+    unfolding readPeer peerAt
+    read-whole fits ha hl hi hn =
+        let e : z ≡ peerSize (getD s at 0) = size-of ∙ ap peerSize kind-is in
+        let m : at + peerSize (getD s at 0) ≤ length s = omega arith in
+        rw (hn, hi, hl, ha, size-of, kind-is) (simp (le-ltb _ _ inside, le-leb _ _ m))
+
+-- ---- the peer as it is stored
+pub store-is : (p : Peer) {n : ℕ} {l : List ℕ} → n ≡ addressSize (p .kind) → l ≡ addressAt (p .addr) 0 n → record { kind = p .kind; id = p .id; addr = l; asn = p .asn } ≡ stored p
+unfolding stored
+store-is p n l = rw (l, n)
+
+-- ---- one address or two
+module _ (p key : Peer) where
+  pub other-family : (p .kind % 2 ≡ key .kind % 2 → ⊥) → false ≡ sameAddress p key
+  unfolding sameAddress
+  other-family e = simp (ne-eqb _ _ e)
+
+  pub one-family : {n : ℕ} {r : Bool} → p .kind % 2 ≡ key .kind % 2 → n ≡ addressSize (key .kind) → r ≡ sameOctets n (p .addr) (key .addr) → r ≡ sameAddress p key
+  unfolding sameAddress
+  one-family e n r = rw (r, n) (simp (eq-eqb _ _ e))
+
+-- ---- the writer
+module _ (s : List ℕ) (at : ℕ) (p : Peer) where
+  without : length s < at + peerSize (p .kind) → (s, at) ≡ putPeer s at p
+  unfolding putPeer
+  without h = simp (lt-leb _ _ h)
+
+  module _ {z : ℕ} (size-of : z ≡ peerSize (p .kind)) where
+    pub put-small : length s < z → (s, at) ≡ putPeer s at p
+    put-small h = without (omega arith)
+
+    pub put-late : z ≤ length s → length s - z < at → (s, at) ≡ putPeer s at p
+    put-late h l = without (omega arith)
+
+    pub put-whole : {a : ℕ} {t u v w : List ℕ} → z ≤ length s → at ≤ length s - z → a ≡ addressSize (p .kind) → t ≡ patch s at (p .kind ∷ []) → u ≡ patch t (at + 1) (bytesOf 4 (p .id))
+        → v ≡ patch u (at + 5) (octetsAt (p .addr) 0 a) → w ≡ patch v (at + 5 + a) (bytesOf (asSize (p .kind)) (p .asn)) → (w, at + z) ≡ putPeer s at p
+    unfolding putPeer peerOctets
+    put-whole {a} {t} {u} {v} {w} h k ha ht hu hv hw =
+        let kinds : List ℕ = p .kind ∷ [] in
+        let ids : List ℕ = bytesOf 4 (p .id) in
+        let address : List ℕ = octetsAt (p .addr) 0 a in
+        let first : u ≡ patch s at (kinds ++ ids) = stores s at 1 kinds ids refl ht hu in
+        let five : length (kinds ++ ids) ≡ 5 = length-append kinds ids ∙ ap (λ (n : ℕ). 1 + n) (length-bytes 4 (p .id)) in
+        let then : v ≡ patch s at (kinds ++ ids ++ address) = stores s at 5 (kinds ++ ids) address five first hv in
+        let more : length (kinds ++ ids ++ address) ≡ 5 + a = length-append (kinds ++ ids) address ∙ (let o : length address ≡ a = length-octets (p .addr) 0 a in omega arith) in
+        let last : w ≡ patch s at (kinds ++ ids ++ address ++ bytesOf (asSize (p .kind)) (p .asn)) =
+        stores s at (5 + a) (kinds ++ ids ++ address) (bytesOf (asSize (p .kind)) (p .asn)) more then (rw add-assoc at hw) in
+        let m : at + peerSize (p .kind) ≤ length s = omega arith in
+        rw (last, ha, size-of) (simp (le-leb _ _ m))
+
+-- ---- a key
+pub key-long : {v6 : Bool} (l : List ℕ) → v6 ≡ true → record { kind = 1; id = 0; addr = l; asn = 0 } ≡ keyOf v6 l
+unfolding keyOf
+key-long l e = rw e
+
+pub key-short : {v6 : Bool} (l : List ℕ) → v6 ≡ false → record { kind = 0; id = 0; addr = l; asn = 0 } ≡ keyOf v6 l
+unfolding keyOf
+key-short l e = rw e

@@ -1,0 +1,47 @@
+// One peer of a PEER_INDEX_TABLE and the check of the table's body (RFC 6396, 4.3.1).
+mod address;
+mod kind;
+mod record;
+mod table;
+
+pub use address::address_key;
+pub use address::same_address;
+pub use address::stored_peer;
+use answer::Outcome;
+use answer::Refusal;
+pub use kind::peer_size;
+pub use kind::unfit_as;
+pub use record::put_peer;
+pub use record::read_peer;
+pub use table::check_peers;
+pub use table::view_name;
+
+pub struct Peer {
+    // The type octet: value 1 means an IPv6 address, value 2 an AS of four octets.
+    pub kind: u8,
+    pub id: u32,
+    // An address of four octets has the first four.
+    pub addr: [u8; 16],
+    pub asn: u32,
+}
+
+pub struct PeerRead {
+    pub outcome: Outcome,
+    pub peer: Peer,
+    // Where the next peer starts.
+    pub next: usize,
+}
+
+pub enum TableAnswer {
+    Table {
+        collector: u32,
+        // Where the view name starts in the body, and how many octets it has.
+        name: usize,
+        length: usize,
+        count: u16,
+        // Where the first peer starts and where the last one ends.
+        first: usize,
+        end: usize,
+    },
+    Refused(Refusal),
+}

@@ -1,0 +1,88 @@
+-- Masks and cleared octets.
+use Prim.Native.Nat.{ℕ, zero, suc, _+_, _-_, _*_, _/_, _%_, _^_, _<_, _≤_}
+use mathlib.Core.Path.{_≡_, refl, sym, _∙_, ap}
+use mathlib.Core.Bool.{Bool, true, false}
+use mathlib.Core.List.{List, [], _∷_, _++_}
+use native.Mathlib.Omega.{arith}
+use native.Mathlib.Nat.{mod-eq-of-lt, lt-of-le-of-lt, div-mul-le-self}
+use native.Mathlib.Numerals.{add-one}
+use mathlib.Core.List.{append-assoc, append-nil}
+use lib.Dec.{ltb}
+use lib.ListN.{length-append, length-drop, replicate, List·getD-append, List·getD-eq-default}
+use lib.Seq.{set-at, getD-append-add}
+use borrow.Author.Tests.{ltb-true, ltb-false}
+use lib.ListN.{length, getD, drop, set}
+use lib.ListN.{length-take, length-replicate}
+use Rattle.octets.specs.Octets.{part, patch}
+use Rattle.octets.proofs.Stores.{patch-front}
+use Rattle.rib.specs.Layout.{prefixSize}
+use Rattle.rib.specs.Prefix.{masked, cleared, prefixAt}
+use Rattle.rib.proofs.Missing.{drop-replicate}
+
+module _ (bits i v : ℕ) where
+  -- an octet after the prefix
+  pub masked-after : v < 256 → bits ≤ 8 * i → 0 ≡ masked bits i v
+  unfolding masked
+  masked-after h l = let e : 8 - (bits - 8 * i) ≡ 8 = omega arith in rw e (let z : v / 256 ≡ 0 = omega arith in rw z)
+
+  -- an octet within the prefix
+  pub masked-within : 8 ≤ bits - 8 * i → v ≡ masked bits i v
+  unfolding masked
+  masked-within l = let e : 8 - (bits - 8 * i) ≡ 0 = omega arith in rw e (omega arith)
+
+-- the octet where the prefix ends: shifted there and back
+pub masked-shift : (bits i v : ℕ) → v < 256 → {k : ℕ} → k ≡ 8 - (bits - 8 * i) → (v / 2 ^ k * 2 ^ k) % 256 ≡ masked bits i v
+unfolding masked
+masked-shift bits i v h {k} e = rw e (mod-eq-of-lt (lt-of-le-of-lt (div-mul-le-self v (2 ^ (8 - (bits - 8 * i)))) h))
+
+pub length-cleared : (bits : ℕ) (l : List ℕ) (n : ℕ) → length (cleared bits l n) ≡ n
+unfolding cleared
+length-cleared bits l zero = refl
+length-cleared bits l (suc n) = length-append (cleared bits l n) (masked bits n (getD l n 0) ∷ []) ∙ rw (length-cleared bits l n) (omega arith)
+
+-- one turn: the octets before i are cleared and zeros stand after them, and then the octet i
+pub clear-turn : (bits : ℕ) (l : List ℕ) (i : ℕ) → i < 16 → {p : List ℕ} → p ≡ cleared bits l i ++ replicate (16 - i) 0
+    → {v : ℕ} → v ≡ masked bits i (getD l i 0) → set p i v ≡ cleared bits l (i + 1) ++ replicate (16 - (i + 1)) 0
+unfolding cleared
+clear-turn bits l i h {p} q {v} e =
+    let k : 16 - i ≡ suc (16 - suc i) = omega arith in
+    let z : List ℕ = replicate (16 - suc i) 0 in
+    rw (add-one, q, k, set-at (cleared bits l i) 0 z v i (length-cleared bits l i), e)
+    (sym (append-assoc (cleared bits l i) (masked bits i (getD l i 0) ∷ []) z))
+
+pub clear-done : (bits : ℕ) (l : List ℕ) (i : ℕ) → i ≤ 16 → 16 ≤ i → {p : List ℕ} → p ≡ cleared bits l i ++ replicate (16 - i) 0 → p ≡ cleared bits l 16
+clear-done bits l i u v q = let e : i ≡ 16 = omega arith in rw (q, e, append-nil)
+
+-- cleared octets are those of any list with the same octets
+pub cleared-same : (bits : ℕ) (l m : List ℕ) (n : ℕ) → ((i : ℕ) → getD l i 0 ≡ getD m i 0) → cleared bits l n ≡ cleared bits m n
+unfolding cleared
+cleared-same bits l m zero e = refl
+cleared-same bits l m (suc n) e = rw (cleared-same bits l m n e, e n)
+
+-- octets and zeros after them
+pub getD-padded : (l : List ℕ) (n i : ℕ) → getD (l ++ replicate n 0) i 0 ≡ getD l i 0
+getD-padded l n i = by-test (ltb i (length l)) refl
+  where
+    zeros : (n j : ℕ) → _≡_ {A = ℕ} (getD (replicate n 0) j 0) 0
+    zeros zero j = refl
+    zeros (suc n) zero = refl
+    zeros (suc n) (suc j) = zeros n j
+
+    by-test : (t : Bool) → ltb i (length l) ≡ t → getD (l ++ replicate n 0) i 0 ≡ getD l i 0
+    by-test true e = List·getD-append l (replicate n 0) 0 i (ltb-true _ _ e)
+    by-test false e =
+        let h : length l ≤ i = ltb-false _ _ e in
+        let k : length l + (i - length l) ≡ i = omega arith in
+        rw (← k, getD-append-add l (replicate n 0) (i - length l) 0, k) (zeros n (i - length l) ∙ sym (List·getD-eq-default l 0 h))
+
+-- the octets of a prefix, stored in front of zeros and cleared
+pub prefix-stored : (bits : ℕ) (s : List ℕ) {n : ℕ} {p : List ℕ} → bits ≤ 128 → n ≡ prefixSize bits → 5 + prefixSize bits ≤ length s
+    → p ≡ patch (replicate 16 0) 0 (part s 5 (5 + n - 5)) → cleared bits p 16 ≡ prefixAt bits s
+unfolding prefixAt prefixSize
+prefix-stored bits s {n} {p} h e l q =
+    let w : 5 + n - 5 ≡ n = omega arith in
+    let k : length (part s 5 n) ≡ n = simp (length-take, length-drop) (omega arith) in
+    let m : n ≤ 16 = omega arith in
+    let z : length {A = ℕ} (replicate 16 0) ≡ 16 = length-replicate {A = ℕ} 16 0 in
+    let f : p ≡ part s 5 n ++ replicate (16 - n) 0 = rw w at q ∙ patch-front (replicate 16 0) (part s 5 n) (omega arith) ∙ rw (k, drop-replicate n 16 0) in
+    rw (← e) (cleared-same bits p (part s 5 n) 16 (λ i. rw f (getD-padded (part s 5 n) (16 - n) i)))

@@ -1,0 +1,48 @@
+// Reading a whole RIB body: its head, and how many of its entries are there.
+ghost use mathlib.Core.Path.{_≡_};
+ghost use Rattle.answer.specs.Refusal.{numberOf};
+ghost use Rattle.rib.specs.Rib.{ribValues, noRib, ribOf};
+use crate::CursorAnswer;
+use crate::Rib;
+use crate::entries::first_entry;
+use crate::entries::pass_entries;
+use crate::prefix::prefix_of;
+use answer::Outcome;
+use answer::Refusal;
+
+// The head of a body, with the declared count and how many entries fit.
+pub fn read_rib(body: &[u8], subtype: u16) -> Rib
+    ensures answer { λ r. ⌜ ribValues r ≡ ribOf (now (body .entry)) subtype ⌝ }
+{
+    match first_entry(body, subtype) {
+        CursorAnswer::Refused(r) => refused(r),
+        CursorAnswer::At(first) => {
+            let bits = octets::octet(body, 4);
+            let after = pass_entries(body, subtype, first);
+            Rib {
+                outcome: Outcome::Accepted,
+                sequence: octets::be32(body, 0),
+                bits,
+                prefix: prefix_of(body, bits),
+                declared: first.left,
+                count: first.left - after.left,
+                entries: first.at,
+            }
+        }
+    }
+}
+
+// A refusal, with 0 in every other field.
+fn refused(r: Refusal) -> Rib
+    ensures { λ x. ⌜ ribValues x ≡ noRib (numberOf r) ⌝ }
+{
+    Rib {
+        outcome: Outcome::Refused(r),
+        sequence: 0,
+        bits: 0,
+        prefix: [0u8; 16],
+        declared: 0,
+        count: 0,
+        entries: 0,
+    }
+}
