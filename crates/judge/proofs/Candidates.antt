@@ -7,13 +7,10 @@ use native.Mathlib.Omega.{arith}
 use lib.ListN.{length, drop, length-drop}
 use lib.Dec.{leb, ltb, eqb}
 use borrow.Author.Tests.{lt-leb, le-leb, lt-ltb, le-ltb, leb-true, leb-false, eq-eqb, ne-eqb, eqb-true, eqb-false}
-use Rattle.answer.specs.Refusal.{numberOf}
-use Rattle.answer.proofs.Refusals.{number-not-zero}
 use Rattle.octets.specs.Octets.{beAt}
 use Rattle.octets.proofs.Numbers.{be-drop}
 use Rattle.rules.specs.Ask.{Ask, done, _>>=_, over, past}
 use Rattle.rules.proofs.Asked.{over-bind, over-past}
-use Rattle.rules.proofs.Meets.{meets-over}
 use Rattle.header.specs.Read.{Heading, refused, accepted, header, headerAt}
 use Rattle.header.specs.Frame.{Framing, framed, frame}
 use Rattle.header.proofs.Reading.{header-kind, header-short}
@@ -21,14 +18,14 @@ use Rattle.checks.specs.Legacy.{legacy}
 use Rattle.checks.specs.Bgp4mp.{asSize, stateChange}
 use Rattle.walk.specs.Judged.{Judged, fit, off, cut, Candidate, stands, fails}
 use Rattle.walk.proofs.Sound.{Sound}
-use Rattle.judge.specs.Record.{verdict, judge, judgeAt, Judging, judging, judgement, judgementAt}
-use Rattle.judge.specs.Candidate.{family, evidence, plausible, standing, headed, candidate, candidateAt, takenUp}
+use Rattle.judge.specs.Record.{verdict, judge, judgeAt, judged}
+use Rattle.judge.specs.Candidate.{family, evidence, plausible, standing, headed, candidate, candidateAt}
 use Rattle.answer.specs.declared.Refusal.{Refusal}
 use Rattle.header.specs.declared.CommonHeader.{CommonHeader}
 use Rattle.header.specs.declared.WireLength.{WireLength}
-use Rattle.judge.specs.declared.JudgeAnswer.{JudgeAnswer}
-use Rattle.judge.specs.declared.JudgeAnswer.the-variants.{Record, Refused}
-use Rattle.judge.proofs.Soundness.{JudgedOk, judge-ok, judge-left, judge-beyond, inside, Inside}
+use Rattle.judge.specs.declared.Verdict.{Verdict}
+use Rattle.judge.specs.declared.Verdict.the-variants.{Fit, Off, Cut}
+use Rattle.judge.proofs.Soundness.{judge-left, inside}
 
 pub family-rest : (k : ℕ) → (k ≡ 5 → ⊥) → (k ≡ 16 → ⊥) → (k ≡ 17 → ⊥) → 0 ≡ family k
 unfolding family
@@ -56,15 +53,20 @@ module _ (k u : ℕ) where
       by-tests false true = omega arith
       by-tests false false = omega arith
 
--- a judgement as a candidate, by its two cases
-pub taken-refused : (j : JudgeAnswer) {r : Refusal} → j ≡ Refused r → fails ≡ takenUp j
-unfolding takenUp
-taken-refused j e = rw e
+-- a verdict as a candidate, by its cases
+module _ (v : Verdict) where
+  pub taken-cut : {r : Refusal} → v ≡ Cut r → fails ≡ standing (judged v)
+  unfolding standing
+  taken-cut e = rw e
 
-pub taken-record : (j : JudgeAnswer) {start body end : ℕ} {h : CommonHeader} {w : WireLength} → j ≡ Record start h w body end
-    → {f v : ℕ} → f ≡ family (h .kind) → v ≡ evidence (h .kind) (h .subtype) → stands f v end ≡ takenUp j
-unfolding takenUp
-taken-record j e p q = rw (e, p, q)
+  pub taken-off : {r : Refusal} {end : ℕ} → v ≡ Off r end → fails ≡ standing (judged v)
+  unfolding standing
+  taken-off e = rw e
+
+  pub taken-fit : {h : CommonHeader} {w : WireLength} {body end : ℕ} → v ≡ Fit h w body end
+      → {f x : ℕ} → f ≡ family (h .kind) → x ≡ evidence (h .kind) (h .subtype) → stands f x end ≡ standing (judged v)
+  unfolding standing
+  taken-fit e p q = rw (e, p, q)
 
 -- what the header alone decides; f is its family
 module _ (k u n us : ℕ) {f : ℕ} (e : f ≡ family k) where
@@ -148,24 +150,8 @@ module _ (s : List ℕ) (p : ℕ) where
       pub candidate-implausible : plausible (h .kind) (h .subtype) (h .stored) (h .micros) ≡ false → fails ≡ over s (candidateAt p)
       candidate-implausible n = not-begun (rw (← here, n, and-false))
 
-      pub candidate-judged : h .number ≡ 0 → plausible (h .kind) (h .subtype) (h .stored) (h .micros) ≡ true → standing (over (drop p s) (judge p)) ≡ over s (candidateAt p)
-      candidate-judged z y = rw (candidate-left l, candidate-over (drop p s) p, ← here, eq-eqb (h .number) 0 z, y)
-
-    -- what the code's judgement says of a candidate
-    taken-up-by : (j : JudgeAnswer) (x : Judged) (b : Bool) (m : ℕ) → JudgedOk p b m x → judging j ≡ judgement p x → takenUp j ≡ standing x
-    unfolding takenUp standing
-    taken-up-by (Record start h w body end) (fit f) b m o q = ap (λ (y : Judging). stands (family (y .frame .head .kind)) (evidence (y .frame .head .kind) (y .frame .head .subtype)) (y .frame .end)) q
-    taken-up-by (Record start h w body end) (off r e) b m o q = absurd (o .0 (ap (λ (y : Judging). y .frame .head .number) (sym q)))
-    taken-up-by (Record start h w body end) (cut r) b m o q = absurd (o .0 (ap (λ (y : Judging). y .frame .head .number) (sym q)))
-    taken-up-by (Refused r) (fit f) b m o q = absurd (number-not-zero r (ap (λ (y : Judging). y .frame .head .number) q ∙ o .0))
-    taken-up-by (Refused r) (off n e) b m o q = refl
-    taken-up-by (Refused r) (cut n) b m o q = refl
-
-    pub candidate-taken : (j : JudgeAnswer) → judging j ≡ judgementAt s p → takenUp j ≡ standing (over (drop p s) (judge p))
-    unfolding judgementAt
-    candidate-taken j q =
-        let o = meets-over (JudgedOk p) (drop p s) false 0 (judge p) (omega arith) (judge-ok p) in
-        taken-up-by j (over (drop p s) (judge p)) (o .met) (o .bytes) (o .holds) (q ∙ simp (le-ltb _ _ l))
+      pub candidate-judged : h .number ≡ 0 → plausible (h .kind) (h .subtype) (h .stored) (h .micros) ≡ true → {j : Judged} → j ≡ over s (judgeAt p) → standing j ≡ over s (candidateAt p)
+      candidate-judged z y q = rw (candidate-left l, candidate-over (drop p s) p, ← here, eq-eqb (h .number) 0 z, y, q, judge-left s p l)
 
 -- THEOREM. A candidate is a record that the judgement accepts, with the same end, and its evidence is 1, 2 or 3.
 pub record Accepted (s : List ℕ) (p v e : ℕ) : Type 0 where

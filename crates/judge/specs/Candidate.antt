@@ -11,8 +11,6 @@ use Rattle.checks.specs.Legacy.{legacy}
 use Rattle.checks.specs.Bgp4mp.{asSize, stateChange}
 use Rattle.walk.specs.Judged.{Judged, fit, off, cut, Candidate, stands, fails}
 use Rattle.judge.specs.Record.{verdict}
-use Rattle.judge.specs.declared.JudgeAnswer.{JudgeAnswer}
-use Rattle.judge.specs.declared.JudgeAnswer.the-variants.{Record, Refused}
 use Rattle.judge.specs.declared.CandidateAnswer.{CandidateAnswer}
 use Rattle.judge.specs.declared.CandidateAnswer.the-variants.{Stands, Fails}
 
@@ -57,8 +55,3 @@ candidateAt p = past p (candidate p)
 abbrev pub candidacy : CandidateAnswer → Candidate
 candidacy (Stands f v e) = stands f v e
 candidacy Fails = fails
-
--- a judgement, as a candidate
-unfoldable pub takenUp : JudgeAnswer → Candidate
-takenUp (Record start h w body end) = stands (family (h .kind)) (evidence (h .kind) (h .subtype)) end
-takenUp (Refused r) = fails

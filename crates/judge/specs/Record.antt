@@ -11,6 +11,8 @@ use Rattle.header.specs.Read.{accepted}
 use Rattle.header.specs.Frame.{Framing, unframed, frame}
 use Rattle.walk.specs.Judged.{Judged, fit, off, cut}
 use Rattle.judge.specs.Body.{check}
+use Rattle.judge.specs.declared.Verdict.{Verdict}
+use Rattle.judge.specs.declared.Verdict.the-variants.{Fit, Off, Cut}
 use Rattle.judge.specs.declared.JudgeAnswer.{JudgeAnswer}
 use Rattle.judge.specs.declared.JudgeAnswer.the-variants.{Record, Refused}
 
@@ -32,6 +34,13 @@ judge at = frame at >>= verdict
 -- the record at an offset
 unfoldable pub judgeAt : ℕ → Ask Judged
 judgeAt p = past p (judge p)
+
+-- what each verdict says
+abbrev pub judged : Verdict → Judged
+judged (Fit h w body end) =
+    fit (record { head = accepted (h .timestamp) (h .kind) (h .subtype) (w .0) (h .length .0) (h .micros); body = body; end = end })
+judged (Off r e) = off (numberOf r) e
+judged (Cut r) = cut (numberOf r)
 
 -- an answer in numbers: where the record starts, and its frame
 pub record Judging : Type 0 where

@@ -1,10 +1,11 @@
 // The test that a scan puts the record at an offset to.
 ghost use mathlib.Core.Path.{_≡_};
 ghost use Rattle.rules.specs.Ask.{over};
-ghost use Rattle.judge.specs.Candidate.{candidacy, candidateAt, family, evidence, plausible, takenUp};
+ghost use Rattle.judge.specs.Record.{judged};
+ghost use Rattle.judge.specs.Candidate.{candidacy, candidateAt, family, evidence, plausible, standing};
 use crate::CandidateAnswer;
-use crate::JudgeAnswer;
-use crate::record::judge_record;
+use crate::Verdict;
+use crate::record::judge_at;
 use answer::Outcome;
 use header::CommonHeader;
 use header::HeaderAnswer;
@@ -29,17 +30,17 @@ pub fn candidate_at(s: &[u8], at: usize) -> CandidateAnswer
     if !is_plausible(header) {
         return CandidateAnswer::Fails;
     }
-    taken_up(judge_record(s, at))
+    taken_up(judge_at(s, at))
 }
 
 // A record that passes, as a candidate.
-fn taken_up(j: JudgeAnswer) -> CandidateAnswer
-    ensures { λ r. ⌜ candidacy r ≡ takenUp j ⌝ }
+fn taken_up(v: Verdict) -> CandidateAnswer
+    ensures { λ r. ⌜ candidacy r ≡ standing (judged v) ⌝ }
 {
-    match j {
-        JudgeAnswer::Refused(_) => CandidateAnswer::Fails,
-        JudgeAnswer::Record {
-            start: _,
+    match v {
+        Verdict::Cut(_) => CandidateAnswer::Fails,
+        Verdict::Off { refusal: _, end: _ } => CandidateAnswer::Fails,
+        Verdict::Fit {
             header,
             wire: _,
             body: _,

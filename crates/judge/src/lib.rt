@@ -8,6 +8,7 @@ pub use body::check_body;
 pub use candidate::candidate_at;
 use header::CommonHeader;
 use header::WireLength;
+pub use record::judge_at;
 pub use record::judge_record;
 
 pub enum JudgeAnswer {
@@ -20,6 +21,24 @@ pub enum JudgeAnswer {
         end: usize,
     },
     Refused(Refusal),
+}
+
+// What a walk asks of an offset.
+pub enum Verdict {
+    // A record that passes all checks.
+    Fit {
+        header: CommonHeader,
+        wire: WireLength,
+        body: usize,
+        end: usize,
+    },
+    // A record that is framed and refused, and where it ends.
+    Off {
+        refusal: Refusal,
+        end: usize,
+    },
+    // No record is framed.
+    Cut(Refusal),
 }
 
 pub enum CandidateAnswer {

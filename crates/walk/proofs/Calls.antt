@@ -11,7 +11,7 @@ use Rattle.rules.specs.Ask.{Ask, _>>=_, over}
 use Rattle.rules.proofs.Asked.{over-bind}
 use Rattle.header.specs.Frame.{Framing}
 use Rattle.walk.specs.Judged.{Judged, fit, off, cut, Candidate}
-use Rattle.walk.specs.Step.{Answer, handed, gap, end, refused, Stepped, at, moved, stopped, asked, Tried, passed, failed, Found, found, nowhere, aligned, scan, unfound, leave, scanned, resume, judged, going, step}
+use Rattle.walk.specs.Step.{Answer, handed, gap, end, refused, Stepped, at, moved, stopped, asked, Tried, passed, failed, Found, found, nowhere, aligned, scan, unfound, leave, scanned, resume, ownEnd, judged, going, step}
 use Rattle.walk.specs.declared.Walk.{Walk}
 
 module _ (judge : ℕ → Ask Judged) (candidate : ℕ → Ask Candidate) (s : List ℕ) (window k : ℕ) where
@@ -49,7 +49,7 @@ module _ (judge : ℕ → Ask Judged) (candidate : ℕ → Ask Candidate) (s : L
       by-found nowhere q = by-unfound p r l q window refl
 
   by-judged : (p : ℕ) → p < length s → (j : Judged) → over s (judge p) ≡ j → Call p (over s (judged judge candidate p window k j))
-  unfolding judged resume over
+  unfolding judged ownEnd resume over
   by-judged p l (fit f) q = fits f q
   by-judged p l (cut r) q = by-scan p r l
   by-judged p l (off r e) q = rw (over-bind s _ (aligned judge (asked k) 0 e)) (by-tried (over s (aligned judge (asked k) 0 e)) refl)

@@ -120,10 +120,14 @@ module _ (judge : ℕ → Ask Judged) (candidate : ℕ → Ask Candidate) where
   resume p window k r e (passed m) = done (moved e (gap p e r 4 m))
   resume p window k r e failed = scanned p window k r
 
+  -- a record that is framed and refused with r: its own end e is tried first
+  unfoldable pub ownEnd : ℕ → ℕ → ℕ → ℕ → ℕ → Ask Stepped
+  ownEnd p window k r e = aligned judge (asked k) 0 e >>= resume p window k r e
+
   -- the record at p has been judged
   unfoldable pub judged : ℕ → ℕ → ℕ → Judged → Ask Stepped
   judged p window k (fit f) = done (moved (f .end) (handed p f))
-  judged p window k (off r e) = aligned judge (asked k) 0 e >>= resume p window k r e
+  judged p window k (off r e) = ownEnd p window k r e
   judged p window k (cut r) = scanned p window k r
 
   -- a walk at p that is not finished and not beyond the stream

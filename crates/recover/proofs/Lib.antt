@@ -1,0 +1,2 @@
+-- Reading: what code has found, as the rules say it.
+pub mod Reading
