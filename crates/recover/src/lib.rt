@@ -4,6 +4,7 @@ mod call;
 mod scan;
 
 use answer::Refusal;
+pub use call::next;
 pub use call::step;
 use header::CommonHeader;
 use header::WireLength;
