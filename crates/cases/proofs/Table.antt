@@ -1,11 +1,25 @@
 -- THEOREM. Every row of the table holds: antt computes the definitions at each.
 use mathlib.Core.Path.{refl}
-use Rattle.octets.specs.Octets.{beAt}
-use Rattle.rules.specs.Ask.{over}
-use Rattle.header.specs.Kind.{known, timed}
+use Rattle.octets.specs.Octets.{beAt, bytesOf, ones}
+use Rattle.rules.specs.Ask.{over, past, _>>=_}
+use Rattle.header.specs.Kind.{known, timed, size}
 use Rattle.header.specs.Read.{header, headerAt}
+use Rattle.header.specs.Frame.{framed, frame}
+use Rattle.peer.specs.Peer.{wide, addressSize, asSize, peerSize}
+use Rattle.peer.specs.Table.{endAt, nameLength, peerCount, firstPeer, lastEnd, checkPeers}
+use Rattle.rib.specs.Layout.{ipv4, ipv6, pathed, carried, mostBits, pathSize, prefixSize}
+use Rattle.rib.specs.Head.{bitsOf, countAt, declared, entriesAt, readable, checkRib}
+use Rattle.rib.specs.Entry.{attributesAt, entryEnd, fits, passed, readCount}
+use Rattle.rib.specs.Rib.{ribOf}
+use Rattle.checks.specs.Message.{messageBounds, message}
+use Rattle.checks.specs.Bgp4mp.{asSizes, asSize as bgpAsSize, addressSize as bgpAddressSize, stateChange, tail, envelope, bgp4mp}
+use Rattle.walk.specs.Step.{whenFit, whenOf, whenWhole, aligned, rowFrom, rowOn, row, scan, unfound, leave, scanned, resume, ownEnd, judged, going, step}
+use Rattle.judge.specs.Body.{tableDump, check}
+use Rattle.judge.specs.Record.{verdict, judge, judgeAt, judgementAt}
+use Rattle.judge.specs.Candidate.{family, evidence, plausible, standing, headed, candidate, candidateAt}
 use Rattle.cases.specs.Cases.{Hold, rows}
 
 pub table : Hold rows
-unfolding rows headerAt header over beAt known timed
-table = (refl, (refl, (refl, tt)))
+unfolding rows beAt bytesOf ones over past _>>=_ known timed size header headerAt framed frame wide addressSize asSize peerSize endAt nameLength peerCount firstPeer lastEnd checkPeers ipv4 ipv6 pathed carried mostBits pathSize prefixSize bitsOf countAt declared entriesAt readable checkRib attributesAt entryEnd fits passed readCount ribOf messageBounds message asSizes bgpAsSize bgpAddressSize stateChange tail envelope bgp4mp whenFit whenOf whenWhole aligned rowFrom rowOn row scan unfound leave scanned resume ownEnd judged going step tableDump check verdict judge judgeAt judgementAt family evidence plausible standing headed candidate candidateAt
+table =
+    (refl, (refl, (refl, (refl, (refl, (refl, (refl, (refl, (refl, (refl, (refl, (refl, (refl, (refl, (refl, (refl, (refl, (refl, (refl, (refl, tt))))))))))))))))))))

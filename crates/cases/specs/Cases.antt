@@ -1,12 +1,22 @@
 -- Both sides of each line (01, Both sides of each line: the cases marked P), as one table. A row names its case in words,
 -- and holds what a definition finds and what 01 says, both as lists of numbers: the refusal's number or 0 first, then the
 -- values in the order of the definition's record.
-use Prim.Native.Nat.{ℕ}
+use Prim.Native.Nat.{ℕ, _-_}
 use Prim.Native.String.{String}
 use mathlib.Core.Path.{_≡_}
+use mathlib.Core.Bool.{Bool, cond}
 use mathlib.Core.List.{List, [], _∷_, _++_}
-use lib.ListN.{replicate}
+use lib.ListN.{replicate, length}
+use Rattle.octets.specs.Octets.{bytesOf}
+use Rattle.rules.specs.Ask.{over}
 use Rattle.header.specs.Read.{Heading, headerAt}
+use Rattle.peer.specs.Table.{checkPeers}
+use Rattle.rib.specs.Rib.{ribOf}
+use Rattle.checks.specs.Bgp4mp.{bgp4mp}
+use Rattle.walk.specs.Judged.{Candidate, stands, fails}
+use Rattle.walk.specs.Step.{Answer, handed, gap, end, refused, Stepped, freshWalk, step}
+use Rattle.judge.specs.Record.{Judging, judgementAt, judgeAt}
+use Rattle.judge.specs.Candidate.{candidateAt}
 
 pub record Row : Type 0 where
   pub case : String
@@ -18,17 +28,70 @@ abbrev pub Hold : List Row → Type 0
 Hold [] = Unit
 Hold (r ∷ rs) = (r .found ≡ r .expected) × Hold rs
 
--- a header's answer, as a list
+-- a header's answer
 abbrev pub heading : Heading → List ℕ
 heading h = h .number ∷ h .timestamp ∷ h .kind ∷ h .subtype ∷ h .wire ∷ h .stored ∷ h .micros ∷ []
 
--- twelve octets of a header at time 0: the type, the subtype and the length, each below 256
+-- a judgement: the refusal's number, where the record starts, and where it ends
+abbrev pub judging : Judging → List ℕ
+judging j = j .frame .head .number ∷ j .start ∷ j .frame .end ∷ []
+
+-- a candidate: 1, its family, its evidence and its end; or 0
+abbrev pub candidacy : Candidate → List ℕ
+candidacy (stands f v e) = 1 ∷ f ∷ v ∷ e ∷ []
+candidacy fails = 0 ∷ []
+
+-- a call: the walk's position, 1 where it is finished, and the answer, by a number for its kind: a record 0, a gap 1, the end
+-- 2, a refusal its own
+abbrev pub answer : Answer → List ℕ
+answer (handed a f) = 0 ∷ a ∷ f .end ∷ []
+answer (gap a e r v c) = 1 ∷ a ∷ e ∷ r ∷ v ∷ c ∷ []
+answer (end a) = 2 ∷ a ∷ []
+answer (refused n a w r) = n ∷ a ∷ w ∷ r ∷ []
+
+abbrev pub call : Stepped → List ℕ
+call x = x .walk .position ∷ cond (x .walk .finished) 1 0 ∷ answer (x .answer)
+
+-- twelve octets of a header at time 0, with a type and a subtype below 256
 abbrev pub common : ℕ → ℕ → ℕ → List ℕ
-common k u w = replicate 5 0 ++ (k ∷ 0 ∷ u ∷ 0 ∷ 0 ∷ 0 ∷ w ∷ [])
+common k u w = replicate 5 0 ++ (k ∷ 0 ∷ u ∷ []) ++ bytesOf 4 w
+
+-- a body of subtype 1 between IPv4 peers: 16 octets, and one BGP message of n octets and type t
+abbrev pub message : ℕ → ℕ → List ℕ
+message t n = replicate 7 0 ++ (1 ∷ []) ++ replicate 8 0 ++ replicate 16 255 ++ bytesOf 2 n ++ (t ∷ []) ++ replicate (n - 19) 0
+
+-- a KEEPALIVE in a record of type 17, with microseconds
+abbrev pub extended : ℕ → List ℕ
+extended us = common 17 1 39 ++ bytesOf 4 us ++ message 4 19
+
+-- a RIB body of subtype 2: sequence 0, the prefix bits, their octets, the count and the entries
+abbrev pub rib : ℕ → ℕ → ℕ → List ℕ → List ℕ
+rib bits size count entries = replicate 4 0 ++ (bits ∷ []) ++ replicate size 0 ++ bytesOf 2 count ++ entries
+
+-- a fresh walk's first call
+abbrev pub first : List ℕ → ℕ → ℕ → List ℕ
+first s window k = call (over s (step judgeAt candidateAt freshWalk window k))
 
 unfoldable pub rows : List Row
 rows =
     record { case = "11 zero octets"; found = heading (headerAt (replicate 11 0) 0); expected = 1 ∷ replicate 6 0 }
     ∷ record { case = "type 17, wire length 3"; found = heading (headerAt (common 17 0 3 ++ replicate 4 0) 0); expected = 3 ∷ replicate 6 0 }
     ∷ record { case = "type 17, wire length 4, 16 octets"; found = heading (headerAt (common 17 0 4 ++ replicate 4 0) 0); expected = 0 ∷ 0 ∷ 17 ∷ 0 ∷ 4 ∷ 0 ∷ 0 ∷ [] }
+    ∷ record { case = "a peer body of 7 octets"; found = checkPeers (replicate 7 0) .number ∷ []; expected = 7 ∷ [] }
+    ∷ record { case = "a peer body of 8 zero octets has no peers"; found = checkPeers (replicate 8 0) .number ∷ checkPeers (replicate 8 0) .count ∷ []; expected = 0 ∷ 0 ∷ [] }
+    ∷ record { case = "IPv4 prefix bits 32"; found = ribOf (rib 32 4 0 []) 2 .number ∷ ribOf (rib 32 4 0 []) 2 .bits ∷ []; expected = 0 ∷ 32 ∷ [] }
+    ∷ record { case = "IPv4 prefix bits 33"; found = ribOf (rib 33 5 0 []) 2 .number ∷ []; expected = 7 ∷ [] }
+    ∷ record { case = "count 2, one entry fits"; found = ribOf (rib 0 0 2 (replicate 8 0)) 2 .number ∷ ribOf (rib 0 0 2 (replicate 8 0)) 2 .declared ∷ ribOf (rib 0 0 2 (replicate 8 0)) 2 .count ∷ []; expected = 0 ∷ 2 ∷ 1 ∷ [] }
+    ∷ record { case = "KEEPALIVE of 19 octets"; found = bgp4mp 1 (message 4 19) ∷ []; expected = 0 ∷ [] }
+    ∷ record { case = "KEEPALIVE of 20 octets"; found = bgp4mp 1 (message 4 20) ∷ []; expected = 7 ∷ [] }
+    ∷ record { case = "OPEN of 4,096 octets"; found = bgp4mp 1 (message 1 4096) ∷ []; expected = 0 ∷ [] }
+    ∷ record { case = "OPEN of 4,097 octets"; found = bgp4mp 1 (message 1 4097) ∷ []; expected = 7 ∷ [] }
+    ∷ record { case = "a candidate's microseconds of 999,999"; found = candidacy (over (extended 999999) (candidateAt 0)); expected = 1 ∷ 16 ∷ 2 ∷ 51 ∷ [] }
+    ∷ record { case = "a candidate's microseconds of 1,000,000"; found = candidacy (over (extended 1000000) (candidateAt 0)); expected = 0 ∷ [] }
+    ∷ record { case = "the walk takes microseconds of 999,999"; found = first (extended 999999) 0 1; expected = 51 ∷ 0 ∷ 0 ∷ 0 ∷ 51 ∷ [] }
+    ∷ record { case = "the walk takes microseconds of 1,000,000"; found = first (extended 1000000) 0 1; expected = 51 ∷ 0 ∷ 0 ∷ 0 ∷ 51 ∷ [] }
+    ∷ record { case = "seven zero octets, window 0"; found = first (replicate 7 0) 0 1; expected = 0 ∷ 1 ∷ 11 ∷ 0 ∷ 0 ∷ 1 ∷ [] }
+    ∷ record { case = "seven zero octets, window 1"; found = first (replicate 7 0) 1 1; expected = 0 ∷ 1 ∷ 11 ∷ 0 ∷ 1 ∷ 1 ∷ [] }
+    ∷ record { case = "six zero octets, window 1"; found = first (replicate 6 0) 1 1; expected = 6 ∷ 0 ∷ 1 ∷ 0 ∷ 6 ∷ 1 ∷ 5 ∷ 0 ∷ [] }
+    ∷ record { case = "a last record refused with 7, framed to the end"; found = first (common 13 1 7 ++ replicate 7 0) 0 3; expected = 19 ∷ 0 ∷ 1 ∷ 0 ∷ 19 ∷ 7 ∷ 4 ∷ 0 ∷ [] }
     ∷ []
