@@ -1,0 +1,38 @@
+//! Walks a file as the reading of 01 does and prints the lines of its listing: `walk FILE [WINDOW] [CONFIRMATIONS]`.
+//! Says at the end whether the crate answers the same.
+
+use mrt_oracle::oracle::Oracle;
+use mrt_oracle::subject::{Reading, Subject};
+use std::process::ExitCode;
+use std::{env, fs};
+
+/// A number among the arguments, or what 01's listing program takes.
+fn number<T: std::str::FromStr>(place: usize, otherwise: T) -> Option<T> {
+    match env::args().nth(place) {
+        Some(word) => word.parse().ok(),
+        None => Some(otherwise),
+    }
+}
+
+fn main() -> ExitCode {
+    let arguments = (env::args_os().nth(1), number(2, 1 << 20), number(3, 3));
+    let (Some(path), Some(window), Some(asked)) = arguments else {
+        eprintln!("usage: walk FILE [WINDOW] [CONFIRMATIONS]");
+        return ExitCode::from(2);
+    };
+    let stream = match fs::read(&path) {
+        Ok(stream) => stream,
+        Err(error) => {
+            eprintln!("{} cannot be read: {error}", path.to_string_lossy());
+            return ExitCode::FAILURE;
+        }
+    };
+    let events = Reading.walk(&stream, window, asked);
+    println!("H\t{}\t{window}\t{asked}", stream.len());
+    for event in events.iter().flatten() {
+        println!("{}", event.line());
+    }
+    let same = events == Oracle.walk(&stream, window, asked);
+    eprintln!("the crate answers {}", if same { "the same" } else { "otherwise" });
+    ExitCode::SUCCESS
+}

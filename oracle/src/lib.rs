@@ -1,0 +1,17 @@
+//! Document 01 read in plain Rust, the crate bgpkit-parser 0.23.0 asked the same questions, and what is needed to
+//! compare the two.
+
+pub mod answers;
+pub mod campaigns;
+pub mod compare;
+pub mod damage;
+pub mod known;
+pub mod make;
+pub mod oracle;
+pub mod question;
+pub mod random;
+pub mod reading;
+pub mod rules;
+pub mod sample;
+pub mod subject;
+pub mod text;

@@ -1,0 +1,14 @@
+//! Document 01 read in plain Rust over slices. Nothing here is taken from the crate, and nothing allocates.
+
+mod check;
+mod header;
+mod octets;
+mod peers;
+mod rib;
+mod walk;
+
+pub use check::body_check;
+pub use header::{frame, read_header, write_header};
+pub use peers::{add_peer, find_peer, read_peers, write_peers};
+pub use rib::{add_entry, begin_rib, read_entry, read_rib};
+pub use walk::{aligned, candidate, judge, scan, step};

@@ -1,0 +1,212 @@
+//! RIB bodies of subtypes 2 to 5 and 8 to 11 (RFC 6396, 4.3.2 and 4.3.4; RFC 8050, 4.1; 01, RIB bodies).
+
+use super::octets::{be16, be32, Pen};
+use crate::answers::{Answer, NewEntry, RibEntry, RibTable};
+
+/// What a subtype decides: the most prefix bits, and whether entries have a path number.
+#[derive(Clone, Copy)]
+struct Form {
+    most_bits: u8,
+    has_path: bool,
+}
+
+fn form(subtype: u16) -> Option<Form> {
+    let (most_bits, has_path) = match subtype {
+        2 | 3 => (32, false),
+        4 | 5 => (128, false),
+        8 | 9 => (32, true),
+        10 | 11 => (128, true),
+        _ => return None,
+    };
+    Some(Form { most_bits, has_path })
+}
+
+/// What stands before the entries, and where those start.
+struct Head {
+    sequence: u32,
+    bits: u8,
+    prefix: [u8; 16],
+    declared: u16,
+    entries: usize,
+}
+
+/// An entry, where its attributes start, and where it ends.
+struct Entry {
+    peer_index: u16,
+    originated: u32,
+    path: u32,
+    attributes: usize,
+    end: usize,
+}
+
+/// The fewest octets that hold a number of bits.
+fn octets_of(bits: u8) -> usize {
+    usize::from(bits).div_ceil(8)
+}
+
+/// The first `bits` bits of a prefix, and zeros after them.
+fn cleared(prefix: &[u8], bits: u8) -> [u8; 16] {
+    let mut clean = [0; 16];
+    let count = octets_of(bits);
+    clean[..count].copy_from_slice(&prefix[..count]);
+    let over = 8 * count - usize::from(bits);
+    if over > 0 {
+        clean[count - 1] &= 255 << over;
+    }
+    clean
+}
+
+fn head(form: Form, body: &[u8]) -> Option<Head> {
+    let bits = *body.get(4)?;
+    let count_at = 5 + octets_of(bits);
+    if bits > form.most_bits || body.len() < count_at + 2 {
+        return None;
+    }
+    Some(Head {
+        sequence: be32(body, 0),
+        bits,
+        prefix: cleared(&body[5..count_at], bits),
+        declared: be16(body, count_at),
+        entries: count_at + 2,
+    })
+}
+
+/// Whether a body of this subtype has a readable head. Nothing where the subtype is not carried.
+pub fn has_readable_head(subtype: u16, body: &[u8]) -> Option<bool> {
+    Some(head(form(subtype)?, body).is_some())
+}
+
+/// The octets of an entry before its attributes.
+fn entry_fixed(form: Form) -> usize {
+    if form.has_path {
+        12
+    } else {
+        8
+    }
+}
+
+/// The entry at an offset, where it fits.
+fn entry_at(form: Form, body: &[u8], at: usize) -> Option<Entry> {
+    let attributes = at + entry_fixed(form);
+    if body.len() < attributes {
+        return None;
+    }
+    let length = usize::from(be16(body, attributes - 2));
+    if body.len() - attributes < length {
+        return None;
+    }
+    Some(Entry {
+        peer_index: be16(body, at),
+        originated: be32(body, at + 2),
+        path: if form.has_path { be32(body, at + 6) } else { 0 },
+        attributes,
+        end: attributes + length,
+    })
+}
+
+/// Goes over the declared entries up to the first that does not fit; answers how many fit and where the last ends.
+fn entries(form: Form, body: &[u8], head: &Head) -> (u16, usize) {
+    let mut at = head.entries;
+    for read in 0..head.declared {
+        match entry_at(form, body, at) {
+            Some(entry) => at = entry.end,
+            None => return (read, at),
+        }
+    }
+    (head.declared, at)
+}
+
+/// The head, and how many entries fit: 6, then 7.
+pub fn read_rib(subtype: u16, body: &[u8]) -> Answer<RibTable> {
+    let table = form(subtype).ok_or(6).and_then(|form| {
+        let head = head(form, body).ok_or(7)?;
+        let (read, _) = entries(form, body, &head);
+        Ok(RibTable { sequence: head.sequence, bits: head.bits, prefix: head.prefix, declared: head.declared, read })
+    });
+    table.into()
+}
+
+/// Entry `index` of a record with this timestamp: 6, then 7, then 8 where it was not read.
+pub fn read_entry(subtype: u16, body: &[u8], timestamp: u32, index: usize) -> Answer<RibEntry> {
+    let entry = form(subtype).ok_or(6).and_then(|form| {
+        let head = head(form, body).ok_or(7)?;
+        let entry = nth(form, body, &head, index).ok_or(8)?;
+        Ok(RibEntry {
+            peer_index: entry.peer_index,
+            originated: entry.originated,
+            path: entry.path,
+            attributes_at: entry.attributes,
+            attributes_len: entry.end - entry.attributes,
+            age: i64::from(timestamp) - i64::from(entry.originated),
+        })
+    });
+    entry.into()
+}
+
+fn nth(form: Form, body: &[u8], head: &Head, index: usize) -> Option<Entry> {
+    if index >= usize::from(head.declared) {
+        return None;
+    }
+    let mut entry = entry_at(form, body, head.entries)?;
+    for _ in 0..index {
+        entry = entry_at(form, body, entry.end)?;
+    }
+    Some(entry)
+}
+
+/// Begins a body with no entry at the front of the output and answers its length: 6, then 10, then 9.
+pub fn begin_rib(out: &mut [u8], subtype: u16, sequence: u32, bits: u8, prefix: &[u8; 16]) -> Answer<usize> {
+    form(subtype).ok_or(6).and_then(|form| put_head(out, form, sequence, bits, prefix)).into()
+}
+
+fn put_head(out: &mut [u8], form: Form, sequence: u32, bits: u8, prefix: &[u8; 16]) -> Result<usize, u8> {
+    if bits > form.most_bits {
+        return Err(10);
+    }
+    if out.len() < 7 + octets_of(bits) {
+        return Err(9);
+    }
+    let mut pen = Pen::new(out);
+    pen.put(&sequence.to_be_bytes());
+    pen.put(&[bits]);
+    pen.put(&cleared(prefix, bits)[..octets_of(bits)]);
+    pen.put(&[0, 0]);
+    Ok(pen.written())
+}
+
+/// Adds an entry to the body in the first `length` octets of a buffer and answers the new length: 8, 6, 7, 10, 9.
+pub fn add_entry(buffer: &mut [u8], length: usize, subtype: u16, entry: &NewEntry) -> Answer<usize> {
+    put_entry(buffer, length, subtype, entry).into()
+}
+
+fn put_entry(buffer: &mut [u8], length: usize, subtype: u16, entry: &NewEntry) -> Result<usize, u8> {
+    let body = buffer.get(..length).ok_or(8)?;
+    let form = form(subtype).ok_or(6)?;
+    let head = whole_head(form, body).ok_or(7)?;
+    let count = head.declared.checked_add(1).ok_or(10)?;
+    let attributes_len = u16::try_from(entry.attributes.len()).map_err(|_| 10)?;
+    if entry.path != 0 && !form.has_path {
+        return Err(10);
+    }
+    let (body, room) = buffer.split_at_mut(length);
+    if room.len() < entry_fixed(form) + entry.attributes.len() {
+        return Err(9);
+    }
+    let mut pen = Pen::new(room);
+    pen.put(&entry.peer_index.to_be_bytes());
+    pen.put(&entry.originated.to_be_bytes());
+    if form.has_path {
+        pen.put(&entry.path.to_be_bytes());
+    }
+    pen.put(&attributes_len.to_be_bytes());
+    pen.put(entry.attributes);
+    body[head.entries - 2..head.entries].copy_from_slice(&count.to_be_bytes());
+    Ok(length + pen.written())
+}
+
+/// The head of a body that holds every declared entry and nothing after them.
+fn whole_head(form: Form, body: &[u8]) -> Option<Head> {
+    let head = head(form, body)?;
+    let whole = entries(form, body, &head) == (head.declared, body.len());
+    whole.then_some(head)
+}

@@ -1,0 +1,121 @@
+//! What 01 promises of every single reply, checked without a second opinion.
+
+use crate::answers::{Answer, Event, RibTable, Walk};
+use crate::question::{Question, Reply};
+use crate::subject::most_calls;
+
+/// The rule that a reply breaks, if it breaks one.
+pub fn broken(question: &Question, reply: &Reply) -> Option<&'static str> {
+    match (question, reply) {
+        (Question::Walk { stream, .. }, Reply::Walk(events)) => broken_by_walk(events, stream.len()),
+        (Question::Step { stream, walk, .. }, Reply::Step(event, after)) => {
+            broken_by_step(stream.len(), *walk, *event, *after)
+        }
+        (_, Reply::Header(answer)) => broken_by_refusal(answer),
+        (_, Reply::Frame(answer)) => broken_by_refusal(answer),
+        (_, Reply::Id(answer)) => broken_by_refusal(answer),
+        (_, Reply::Rib(answer)) => {
+            let RibTable { prefix, bits, .. } = answer.value;
+            broken_by_refusal(answer).or_else(|| broken_by_prefix(&prefix, bits))
+        }
+        (_, Reply::Entry(answer)) => broken_by_refusal(answer),
+        (Question::PeerRead { slots, .. }, Reply::Table(answer, after)) => {
+            broken_by_refusal(answer).or_else(|| broken_by_writing(slots, after, 0..answer.value.count))
+        }
+        (Question::PeerAdd { slots, count, .. }, Reply::Added(answer, after)) => {
+            let added = answer.refusal == 0 && answer.value == *count;
+            let written = if added { *count..*count + 1 } else { 0..0 };
+            broken_by_refusal(answer).or_else(|| broken_by_writing(slots, after, written))
+        }
+        (Question::HeaderWrite { room, .. }, Reply::Written(answer, after))
+        | (Question::PeerWrite { room, .. }, Reply::Written(answer, after))
+        | (Question::RibBegin { room, .. }, Reply::Written(answer, after))
+        | (Question::RibAdd { buffer: room, .. }, Reply::Written(answer, after)) => {
+            // That the octets of a body before a new entry stay, but for the count, is for the crate to show.
+            broken_by_refusal(answer).or_else(|| broken_by_writing(room, after, 0..answer.value))
+        }
+        _ => None,
+    }
+}
+
+/// A refusal has 0 in every other field.
+fn broken_by_refusal<T: Default + PartialEq>(answer: &Answer<T>) -> Option<&'static str> {
+    let clean = answer.refusal == 0 || answer.value == T::default();
+    (!clean).then_some("a refusal has values")
+}
+
+/// Bits after the prefix are cleared.
+fn broken_by_prefix(prefix: &[u8; 16], bits: u8) -> Option<&'static str> {
+    let all = u128::from_be_bytes(*prefix);
+    let after = all.checked_shl(u32::from(bits)).unwrap_or(0);
+    (after != 0).then_some("bits after the prefix are set")
+}
+
+/// Lent memory outside of what the call says it writes stays as it was. A refusal writes nothing.
+fn broken_by_writing<T: PartialEq>(before: &[T], after: &[T], range: std::ops::Range<usize>) -> Option<&'static str> {
+    let kept = before.len() == after.len()
+        && range.end <= after.len()
+        && before[..range.start] == after[..range.start]
+        && before[range.end..] == after[range.end..];
+    (!kept).then_some("lent memory was changed beyond what was written")
+}
+
+/// Where the walk stands after each kind of answer.
+fn broken_by_step(n: usize, before: Walk, event: Event, after: Walk) -> Option<&'static str> {
+    let expected = match event {
+        Event::Record { end, .. } | Event::Gap { end, .. } => Walk { position: end, finished: false },
+        Event::End { .. } | Event::Window { .. } => Walk { position: before.position, finished: true },
+        Event::Beyond => before,
+    };
+    let right = match event {
+        Event::Beyond => before.position > n,
+        Event::End { offset } => offset == before.position && (before.finished || offset == n),
+        _ => !before.finished && before.position < n,
+    };
+    (after != expected || !right).then_some("the walk after the call is not as 01 says")
+}
+
+/// The four properties of a whole walk.
+pub fn broken_by_walk(events: &[Event], n: usize) -> Option<&'static str> {
+    if !covers(events, n) {
+        return Some("records and gaps do not cover the octets once and in order");
+    }
+    if !confirmed_records_follow(events) {
+        return Some("a gap is not followed by as many records as it reports");
+    }
+    if events.windows(2).any(|pair| pair.iter().all(|event| matches!(event, Event::Gap { .. }))) {
+        return Some("two gaps touch");
+    }
+    let in_time = events.len() <= most_calls(n) && events.last().is_some_and(Event::is_last);
+    (!in_time).then_some("the last answer did not come in time")
+}
+
+/// Each answer starts where the one before ended; the last stands at the end, or at the start of a refusal 11.
+fn covers(events: &[Event], n: usize) -> bool {
+    let mut at = 0;
+    for event in events {
+        match *event {
+            Event::Record { start, end, .. } if start == at && start + 12 <= end && end <= n => at = end,
+            Event::Gap { start, end, .. } if start == at && start < end && end <= n => at = end,
+            Event::End { offset } => return offset == at && at == n,
+            Event::Window { start, .. } => return start == at && at < n,
+            _ => return false,
+        }
+    }
+    false
+}
+
+/// A gap with k confirmed has k records after it; with none confirmed, the end.
+fn confirmed_records_follow(events: &[Event]) -> bool {
+    events.iter().enumerate().all(|(place, event)| {
+        let Event::Gap { confirmed, .. } = *event else {
+            return true;
+        };
+        let after = &events[place + 1..];
+        if confirmed == 0 {
+            return matches!(after, [Event::End { .. }]);
+        }
+        let following = after.get(..usize::from(confirmed));
+        following.is_some_and(|events| events.iter().all(|event| matches!(event, Event::Record { .. })))
+    })
+}

@@ -1,0 +1,108 @@
+//! Document 01, "Both sides of each line", and its example of a listing, asked of the reading and of the crate.
+
+use mrt_oracle::answers::{Event, Peer};
+use mrt_oracle::make;
+use mrt_oracle::oracle::Oracle;
+use mrt_oracle::subject::{Reading, Subject};
+
+const BOTH: [&dyn Subject; 2] = [&Reading, &Oracle];
+
+fn walk(subject: &dyn Subject, stream: &[u8], window: usize, asked: u8) -> Vec<Event> {
+    subject.walk(stream, window, asked).expect("every subject walks")
+}
+
+fn refusal(subject: &dyn Subject, stream: &[u8]) -> u8 {
+    subject.judge(stream, 0).expect("every subject judges").refusal
+}
+
+#[test]
+fn the_listing_of_the_example() {
+    let first = make::record(16, 0, &make::state_change_body(0, 1));
+    let stream = [first.clone(), make::record(13, 1, &[0; 7]), first].concat();
+    for subject in BOTH {
+        let lines: Vec<String> = walk(subject, &stream, 1 << 20, 3).iter().map(Event::line).collect();
+        assert_eq!(lines, ["R\t0\t32\t16\t0", "G\t32\t51\t7\t4\t1", "R\t51\t83\t16\t0", "E\t83"]);
+    }
+}
+
+#[test]
+fn headers_on_both_sides() {
+    for subject in BOTH {
+        let read = |stream: &[u8]| subject.header_read(stream, 0).expect("every subject reads headers");
+        assert_eq!(read(&[0; 11]).refusal, 1);
+        assert_eq!(read(&[0; 12]).refusal, 0);
+        let mut timed = make::header(0, 17, 0, 3);
+        timed.extend([0; 4]);
+        assert_eq!(read(&timed).refusal, 3);
+        timed[11] = 4;
+        assert_eq!(read(&timed[..15]).refusal, 1);
+        assert_eq!((read(&timed).refusal, read(&timed).value.stored), (0, 0));
+    }
+}
+
+#[test]
+fn peer_tables_on_both_sides() {
+    for subject in BOTH {
+        let read = |body: &[u8]| subject.peer_read(body, &mut [Peer::default()]).expect("there is a slot");
+        assert_eq!(read(&[0; 7]).refusal, 7);
+        assert_eq!((read(&[0; 8]).refusal, read(&[0; 8]).value.count), (0, 0));
+    }
+}
+
+#[test]
+fn rib_bodies_on_both_sides() {
+    for subject in BOTH {
+        let read = |body: &[u8]| subject.rib_read(2, body).expect("every subject reads RIB bodies");
+        assert_eq!(read(&make::rib_head(0, 32, 10, 0)).refusal, 0);
+        assert_eq!(read(&make::rib_head(0, 33, 10, 0)).refusal, 7);
+        let body = [make::rib_head(0, 8, 10, 2), make::rib_entry(2, 0, &[])].concat();
+        let answer = read(&body);
+        assert_eq!((answer.refusal, answer.value.declared, answer.value.read), (0, 2, 1));
+    }
+}
+
+#[test]
+fn messages_on_both_sides() {
+    for subject in BOTH {
+        let judged = |kind, length| refusal(subject, &make::record(16, 1, &make::message_body(1, 1, kind, length)));
+        assert_eq!((judged(4, 19), judged(4, 20)), (0, 7));
+        assert_eq!((judged(1, 4_096), judged(1, 4_097)), (0, 7));
+        let longest = make::message_body(4, 2, 2, 65_535);
+        assert_eq!((longest.len(), refusal(subject, &make::record(16, 4, &longest))), (65_579, 0));
+    }
+}
+
+#[test]
+fn state_changes_on_both_sides() {
+    for subject in BOTH {
+        let mut body = make::state_change_body(0, 1);
+        assert_eq!((body.len(), refusal(subject, &make::record(16, 0, &body))), (20, 0));
+        body.push(0);
+        assert_eq!(refusal(subject, &make::record(16, 0, &body)), 7);
+    }
+}
+
+#[test]
+fn microseconds_of_a_candidate() {
+    for subject in BOTH {
+        for (micros, stands) in [(999_999, true), (1_000_000, false)] {
+            let record = make::timed_record(17, 0, micros, &make::state_change_body(0, 1));
+            assert_eq!(subject.candidate(&record, 0).expect("every subject tests candidates").stands, stands);
+            assert!(matches!(walk(subject, &record, 1, 1)[0], Event::Record { .. }));
+        }
+    }
+}
+
+#[test]
+fn windows_on_both_sides() {
+    for subject in BOTH {
+        let first = |stream: &[u8], window| walk(subject, stream, window, 3)[0];
+        assert_eq!(first(&[0; 7], 0), Event::Window { start: 0, window: 0, refusal: 1 });
+        assert_eq!(first(&[0; 7], 1), Event::Window { start: 0, window: 1, refusal: 1 });
+        let gap = Event::Gap { start: 0, end: 6, refusal: 1, evidence: 5, confirmed: 0 };
+        assert_eq!(first(&[0; 6], 1), gap);
+        let last = make::record(13, 1, &[0; 7]);
+        let gap = Event::Gap { start: 0, end: 19, refusal: 7, evidence: 4, confirmed: 0 };
+        assert_eq!(first(&last, 1), gap);
+    }
+}

@@ -1,0 +1,60 @@
+//! What is written reads back as the same, and what refuses leaves all as it was.
+
+use mrt_oracle::answers::{Header, NewEntry, Peer, Walk};
+use mrt_oracle::reading;
+
+#[test]
+fn headers_read_back() {
+    for (kind, micros) in [(13, 0), (17, 1_000_000), (33, 0)] {
+        let header = Header { timestamp: 1, kind, subtype: 2, wire: if kind == 17 { 9 } else { 5 }, stored: 5, micros };
+        let mut out = [0xaa; 16];
+        assert_eq!(reading::write_header(&mut out, &header).refusal, 0);
+        assert_eq!(reading::read_header(&out, 0).value, header);
+    }
+}
+
+#[test]
+fn peers_read_back() {
+    let mut slots = [Peer::default(); 4];
+    let mut count = 0;
+    for kind in [0, 1, 2, 3] {
+        let peer = Peer { kind, id: 7, address: [kind + 1; 16], asn: 65_000 };
+        assert_eq!(reading::add_peer(&mut slots, count, &peer).value, count);
+        count += 1;
+    }
+    assert_eq!(slots[0].address, [1, 1, 1, 1, 0, 0, 0, 0, 0, 0, 0, 0, 0, 0, 0, 0]);
+    let mut out = [0; 100];
+    let size = reading::write_peers(&mut out, 9, b"view", &slots, count).value;
+    assert_eq!(size, 8 + 4 + 11 + 23 + 13 + 25);
+    let mut read = [Peer::default(); 4];
+    let table = reading::read_peers(&out[..size], &mut read).value;
+    assert_eq!((table.collector, table.count, &out[table.view_at..][..table.view_len]), (9, 4, &b"view"[..]));
+    assert_eq!(read, slots);
+}
+
+#[test]
+fn ribs_read_back() {
+    let mut buffer = [0xaa; 60];
+    let mut length = reading::begin_rib(&mut buffer, 8, 3, 9, &[0xff; 16]).value;
+    assert_eq!(buffer[..length], [0, 0, 0, 3, 9, 0xff, 0x80, 0, 0]);
+    for number in 0..2u8 {
+        let entry = NewEntry { peer_index: 1, originated: 200, path: 5, attributes: &[number; 3] };
+        length = reading::add_entry(&mut buffer, length, 8, &entry).value;
+    }
+    let entry = reading::read_entry(8, &buffer[..length], 100, 1).value;
+    assert_eq!((entry.path, entry.age, buffer[entry.attributes_at]), (5, -100, 1));
+    assert_eq!(reading::read_rib(8, &buffer[..length]).value.read, 2);
+    let before = buffer;
+    let entry = NewEntry { attributes: &[0; 60], ..NewEntry::default() };
+    assert_eq!(reading::add_entry(&mut buffer, length, 8, &entry).refusal, 9);
+    assert_eq!(buffer, before);
+}
+
+#[test]
+fn a_walk_beyond_the_stream_stays() {
+    for finished in [false, true] {
+        let mut walk = Walk { position: 3, finished };
+        reading::step(&[0; 2], &mut walk, usize::MAX, 255);
+        assert_eq!(walk, Walk { position: 3, finished });
+    }
+}
