@@ -1,8 +1,9 @@
 -- Laws of refusal numbers.
 use Prim.Native.Nat.{ℕ}
 use mathlib.Core.Path.{_≡_, refl, sym, _∙_, ap}
-use mathlib.Core.Bool.{cond}
+use mathlib.Core.Bool.{false, cond}
 use lib.Dec.{eqb}
+use borrow.Author.Tests.{ne-eqb}
 use native.Mathlib.Omega.{arith}
 use Rattle.answer.specs.Refusal.{numberOf}
 use Rattle.answer.specs.declared.Refusal.{Refusal}
@@ -21,6 +22,9 @@ number-not-zero Beyond e = omega arith
 number-not-zero NoRoom e = omega arith
 number-not-zero TooLarge e = omega arith
 number-not-zero WindowExhausted e = omega arith
+
+pub number-refusal : (r : Refusal) → eqb (numberOf r) 0 ≡ false
+number-refusal r = ne-eqb (numberOf r) 0 (number-not-zero r)
 
 -- the refusal that has a number
 named : ℕ → Refusal

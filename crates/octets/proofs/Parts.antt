@@ -1,11 +1,11 @@
 -- Parts of octets: of a list, and as they are lent and come back.
-use Prim.Native.Nat.{ℕ, _+_, _-_, _<_, _≤_}
+use Prim.Native.Nat.{ℕ, zero, suc, _+_, _-_, _<_, _≤_}
 use mathlib.Core.Path.{_≡_, refl, sym, _∙_, ap}
 use mathlib.Core.List.{List, [], _++_, append-nil}
 use native.Mathlib.Nat.{le-of-eq}
 use native.Mathlib.Omega.{arith}
-use lib.ListN.{length, getD, take, drop, length-take, length-drop, drop-of-length-le}
-use lib.Seq.{take-all, take-add, drop-drop, getD-take, getD-drop}
+use lib.ListN.{length, getD, take, drop, length-take, length-drop, drop-of-length-le, replicate}
+use lib.Seq.{take-all, take-nil, take-add, drop-drop, getD-take, getD-drop}
 use Rattle.octets.specs.Octets.{beAt, patch, part}
 use Rattle.octets.proofs.Numbers.{be-drop, be-take}
 use Rattle.octets.proofs.Stores.{patch-part, length-patch}
@@ -34,3 +34,21 @@ pub patch-rest : (s : List ℕ) (e at : ℕ) (bs : List ℕ) {t : List ℕ} → 
 patch-rest s e at bs h q =
     let z : drop (length s - e) (drop e s) ≡ [] = drop-of-length-le (drop e s) (le-of-eq (length-drop e s)) in
     rw (z, append-nil, q, part-rest s e) (patch-part s e at bs h)
+
+-- a part past the end, a part of no octets, and a part that runs past the end
+pub part-past : (s : List ℕ) (at n : ℕ) → length s ≤ at → [] ≡ part s at n
+part-past s at n h = rw (drop-of-length-le s h) (sym (take-nil n))
+
+pub part-none : (s : List ℕ) (at end : ℕ) → end ≤ at → [] ≡ part s at (end - at)
+part-none s at end h = let z : end - at ≡ 0 = omega arith in rw z
+
+pub part-cut : (s : List ℕ) (at end : ℕ) → length s ≤ end → part s at (length s - at) ≡ part s at (end - at)
+part-cut s at end h =
+    take-all (length s - at) (drop at s) (simp length-drop (omega arith))
+    ∙ sym (take-all (end - at) (drop at s) (simp length-drop (omega arith)))
+
+-- what is left of equal elements
+pub drop-replicate : (k n v : ℕ) → drop k (replicate n v) ≡ replicate (n - k) v
+drop-replicate zero n v = let e : n - 0 ≡ n = omega arith in rw e
+drop-replicate (suc k) zero v = let e : 0 - suc k ≡ 0 = omega arith in rw e
+drop-replicate (suc k) (suc n) v = let e : suc n - suc k ≡ n - k = omega arith in rw e (drop-replicate k n v)

@@ -1,15 +1,15 @@
 -- What stores leave in lent octets: one law for each run of stores, whatever is stored.
 use Prim.Native.Nat.{ℕ, zero, suc, _+_, _-_, _<_, _≤_, min}
 use mathlib.Core.Path.{_≡_, refl, sym, _∙_, ap}
-use mathlib.Core.List.{List, [], _∷_, _++_}
+use mathlib.Core.List.{List, [], _∷_, _++_, append-assoc}
 use mathlib.Core.Bool.{Bool, true, false}
 use lib.Dec.{leb}
 use borrow.Author.Tests.{leb-true, leb-false}
 use native.Mathlib.Nat.{add-zero, zero-add, add-suc, suc-add}
 use native.Mathlib.Numerals.{add-one}
 use native.Mathlib.Omega.{arith}
-use lib.ListN.{length, getD, take, drop, set, take-append-drop}
-use lib.Seq.{sets, sets-eq, length-sets, set-out, take-suc, length-take-le, take-all}
+use lib.ListN.{length, getD, take, drop, set, take-append-drop, length-append}
+use lib.Seq.{sets, sets-eq, length-sets, set-out, take-suc, length-take-le, take-all, take-at, drop-at}
 use Rattle.octets.specs.Octets.{patch}
 
 pub length-patch : (s : List ℕ) (at : ℕ) (bs : List ℕ) → length (patch s at bs) ≡ length s
@@ -39,6 +39,14 @@ patch-within s at bs h = sets-eq bs s at h
 
 pub patch-front : (s bs : List ℕ) → length bs ≤ length s → patch s 0 bs ≡ bs ++ drop (length bs) s
 patch-front s bs h = rw (patch-within s 0 bs (rw zero-add h), zero-add)
+
+-- octets in the place of as many others
+pub patch-between : (p a b q : List ℕ) (at : ℕ) → length p ≡ at → length a ≡ length b → patch (p ++ (a ++ q)) at b ≡ p ++ (b ++ q)
+patch-between p a b q at l e =
+    let h : at + length b ≤ length (p ++ (a ++ q)) = simp length-append (omega arith) in
+    let k : length (p ++ a) ≡ at + length b = simp length-append (omega arith) in
+    patch-within (p ++ (a ++ q)) at b h
+    ∙ rw (take-at p (a ++ q) at l, ← append-assoc p a q, drop-at (p ++ a) q (at + length b) k, append-assoc p b q)
 
 -- stores in the part that starts at e, seen in the whole
 pub patch-part : (s : List ℕ) (e at : ℕ) (bs : List ℕ) → e ≤ length s → take e s ++ patch (drop e s) at bs ≡ patch s (e + at) bs

@@ -16,7 +16,8 @@ use Rattle.peer.specs.Peer.{octetsAt, addressAt, sameOctets}
 pub length-octets : (s : List ℕ) (at n : ℕ) → length (octetsAt s at n) ≡ n
 unfolding octetsAt
 length-octets s at zero = refl
-length-octets s at (suc n) = length-append (octetsAt s at n) (getD s (at + n) 0 ∷ []) ∙ ap (λ (k : ℕ). k + 1) (length-octets s at n) ∙ add-one n
+length-octets s at (suc n) = length-append (octetsAt s at n) (getD s (at + n) 0 ∷ []) ∙ ap (λ (k : ℕ). k + 1) (length-octets s at n)
+    ∙ add-one n
 
 octets-more : (s : List ℕ) (at n : ℕ) → octetsAt s at n ++ (getD s (at + n) 0 ∷ []) ≡ octetsAt s at (n + 1)
 unfolding octetsAt
@@ -32,7 +33,8 @@ set-after : (xs : List ℕ) (x v : ℕ) (ys : List ℕ) → set (xs ++ (x ∷ ys
 set-after [] x v ys = refl
 set-after (z ∷ xs) x v ys = ap (λ (l : List ℕ). z ∷ l) (set-after xs x v ys)
 
-pub address-turn : (s : List ℕ) (at i : ℕ) {l : List ℕ} → i < 16 → l ≡ addressAt s at i → set l i (getD s (at + i) 0) ≡ addressAt s at (i + 1)
+pub address-turn : (s : List ℕ) (at i : ℕ) {l : List ℕ} → i < 16 → l ≡ addressAt s at i
+    → set l i (getD s (at + i) 0) ≡ addressAt s at (i + 1)
 unfolding addressAt
 address-turn s at i h e =
     let r : 16 - i ≡ suc (16 - (i + 1)) = omega arith in
@@ -52,11 +54,13 @@ pub written-none : (s l : List ℕ) (at : ℕ) → s ≡ patch s at (octetsAt l 
 unfolding octetsAt patch
 written-none s l at = refl
 
-pub written-turn : (s l : List ℕ) (at i : ℕ) {t : List ℕ} → t ≡ patch s at (octetsAt l 0 i) → set t (at + i) (getD l i 0) ≡ patch s at (octetsAt l 0 (i + 1))
+pub written-turn : (s l : List ℕ) (at i : ℕ) {t : List ℕ} → t ≡ patch s at (octetsAt l 0 i)
+    → set t (at + i) (getD l i 0) ≡ patch s at (octetsAt l 0 (i + 1))
 unfolding patch
 written-turn s l at i e = stores s at i (octetsAt l 0 i) (getD l i 0 ∷ []) (length-octets l 0 i) e refl ∙ ap (patch s at) (octets-front l i)
 
-pub written-all : (s l : List ℕ) (at : ℕ) {t : List ℕ} {i n : ℕ} → i ≤ n → n ≤ i → t ≡ patch s at (octetsAt l 0 i) → t ≡ patch s at (octetsAt l 0 n)
+pub written-all : (s l : List ℕ) (at : ℕ) {t : List ℕ} {i n : ℕ} → i ≤ n → n ≤ i → t ≡ patch s at (octetsAt l 0 i)
+    → t ≡ patch s at (octetsAt l 0 n)
 written-all s l at {t} {i} {n} h k e = let z : i ≡ n = omega arith in rw z at e
 
 -- ---- comparing: the first i octets are the same

@@ -10,7 +10,8 @@ use lib.ListN.{length, getD, length-append}
 use Rattle.octets.specs.Octets.{beAt, bytesOf, patch}
 use Rattle.octets.proofs.Numbers.{length-bytes}
 use Rattle.octets.proofs.Stores.{stores}
-use Rattle.peer.specs.Peer.{addressSize, asSize, peerSize, octetsAt, addressAt, peerAt, unread, readPeer, stored, keyOf, sameOctets, sameAddress, peerOctets, putPeer}
+use Rattle.peer.specs.Peer.{addressSize, asSize, peerSize, octetsAt, addressAt, peerAt, unread, readPeer, stored, keyOf, sameOctets}
+use Rattle.peer.specs.Peer.{sameAddress, peerOctets, putPeer}
 use Rattle.peer.specs.declared.Peer.{Peer}
 use Rattle.peer.proofs.Sizes.{as-either, size-is}
 use Rattle.peer.proofs.Addresses.{length-octets}
@@ -36,7 +37,8 @@ module _ (s : List ℕ) (at kind asn : ℕ) {w : ℕ} {t : List ℕ} (sized : w 
   as-put-long e h = h ∙ ap (λ (k : ℕ). patch s at (bytesOf k asn)) (sym e ∙ sized)
 
   pub as-put-short : (w ≡ 4 → ⊥) → t ≡ patch s at (bytesOf 2 (asn % 65536)) → t ≡ patch s at (bytesOf (asSize kind) asn)
-  as-put-short e h = h ∙ ap (patch s at) (bytes-cut asn) ∙ ap (λ (k : ℕ). patch s at (bytesOf k asn)) (sym (as-either kind (λ z. e (sized ∙ z))))
+  as-put-short e h = h ∙ ap (patch s at) (bytes-cut asn) ∙ ap (λ (k : ℕ). patch s at (bytesOf k asn)) (sym (as-either kind (λ z. e (sized
+      ∙ z))))
 
 -- ---- the reader
 module _ (s : List ℕ) (at : ℕ) where
@@ -52,8 +54,10 @@ module _ (s : List ℕ) (at : ℕ) where
         let m : length s < at + peerSize (getD s at 0) = omega arith in
         simp (le-ltb _ _ inside, lt-leb _ _ m)
 
-    pub read-whole : {a id asn : ℕ} {l : List ℕ} → z ≤ length s - at → a ≡ addressSize k → l ≡ addressAt s (at + 5) a → id ≡ beAt s (at + 1) 4
-        → asn ≡ beAt s (at + 5 + a) (asSize k) → record { number = 0; peer = record { kind = k; id = id; addr = l; asn = asn }; next = at + z } ≡ readPeer s at
+    pub read-whole : {a id asn : ℕ} {l : List ℕ} → z ≤ length s - at → a ≡ addressSize k → l ≡ addressAt s (at + 5) a
+        → id ≡ beAt s (at + 1) 4
+        → asn ≡ beAt s (at + 5 + a) (asSize k)
+        → record { number = 0; peer = record { kind = k; id = id; addr = l; asn = asn }; next = at + z } ≡ readPeer s at
     unfolding readPeer peerAt
     read-whole fits ha hl hi hn =
         let e : z ≡ peerSize (getD s at 0) = size-of ∙ ap peerSize kind-is in
@@ -61,7 +65,8 @@ module _ (s : List ℕ) (at : ℕ) where
         rw (hn, hi, hl, ha, size-of, kind-is) (simp (le-ltb _ _ inside, le-leb _ _ m))
 
 -- ---- the peer as it is stored
-pub store-is : (p : Peer) {n : ℕ} {l : List ℕ} → n ≡ addressSize (p .kind) → l ≡ addressAt (p .addr) 0 n → record { kind = p .kind; id = p .id; addr = l; asn = p .asn } ≡ stored p
+pub store-is : (p : Peer) {n : ℕ} {l : List ℕ} → n ≡ addressSize (p .kind) → l ≡ addressAt (p .addr) 0 n
+    → record { kind = p .kind; id = p .id; addr = l; asn = p .asn } ≡ stored p
 unfolding stored
 store-is p n l = rw (l, n)
 
@@ -71,7 +76,8 @@ module _ (p key : Peer) where
   unfolding sameAddress
   other-family e = simp (ne-eqb _ _ e)
 
-  pub one-family : {n : ℕ} {r : Bool} → p .kind % 2 ≡ key .kind % 2 → n ≡ addressSize (key .kind) → r ≡ sameOctets n (p .addr) (key .addr) → r ≡ sameAddress p key
+  pub one-family : {n : ℕ} {r : Bool} → p .kind % 2 ≡ key .kind % 2 → n ≡ addressSize (key .kind) → r ≡ sameOctets n (p .addr) (key .addr)
+      → r ≡ sameAddress p key
   unfolding sameAddress
   one-family e n r = rw (r, n) (simp (eq-eqb _ _ e))
 
@@ -88,8 +94,10 @@ module _ (s : List ℕ) (at : ℕ) (p : Peer) where
     pub put-late : z ≤ length s → length s - z < at → (s, at) ≡ putPeer s at p
     put-late h l = without (omega arith)
 
-    pub put-whole : {a : ℕ} {t u v w : List ℕ} → z ≤ length s → at ≤ length s - z → a ≡ addressSize (p .kind) → t ≡ patch s at (p .kind ∷ []) → u ≡ patch t (at + 1) (bytesOf 4 (p .id))
-        → v ≡ patch u (at + 5) (octetsAt (p .addr) 0 a) → w ≡ patch v (at + 5 + a) (bytesOf (asSize (p .kind)) (p .asn)) → (w, at + z) ≡ putPeer s at p
+    pub put-whole : {a : ℕ} {t u v w : List ℕ} → z ≤ length s → at ≤ length s - z → a ≡ addressSize (p .kind) → t ≡ patch s at (p .kind
+        ∷ []) → u ≡ patch t (at + 1) (bytesOf 4 (p .id))
+        → v ≡ patch u (at + 5) (octetsAt (p .addr) 0 a) → w ≡ patch v (at + 5 + a) (bytesOf (asSize (p .kind)) (p .asn))
+        → (w, at + z) ≡ putPeer s at p
     unfolding putPeer peerOctets
     put-whole {a} {t} {u} {v} {w} h k ha ht hu hv hw =
         let kinds : List ℕ = p .kind ∷ [] in
@@ -98,7 +106,8 @@ module _ (s : List ℕ) (at : ℕ) (p : Peer) where
         let first : u ≡ patch s at (kinds ++ ids) = stores s at 1 kinds ids refl ht hu in
         let five : length (kinds ++ ids) ≡ 5 = length-append kinds ids ∙ ap (λ (n : ℕ). 1 + n) (length-bytes 4 (p .id)) in
         let then : v ≡ patch s at (kinds ++ ids ++ address) = stores s at 5 (kinds ++ ids) address five first hv in
-        let more : length (kinds ++ ids ++ address) ≡ 5 + a = length-append (kinds ++ ids) address ∙ (let o : length address ≡ a = length-octets (p .addr) 0 a in omega arith) in
+        let more : length (kinds ++ ids ++ address) ≡ 5 + a = length-append (kinds ++ ids) address
+        ∙ (let o : length address ≡ a = length-octets (p .addr) 0 a in omega arith) in
         let last : w ≡ patch s at (kinds ++ ids ++ address ++ bytesOf (asSize (p .kind)) (p .asn)) =
         stores s at (5 + a) (kinds ++ ids ++ address) (bytesOf (asSize (p .kind)) (p .asn)) more then (rw add-assoc at hw) in
         let m : at + peerSize (p .kind) ≤ length s = omega arith in
@@ -112,3 +121,26 @@ key-long l e = rw e
 pub key-short : {v6 : Bool} (l : List ℕ) → v6 ≡ false → record { kind = 0; id = 0; addr = l; asn = 0 } ≡ keyOf v6 l
 unfolding keyOf
 key-short l e = rw e
+
+-- ---- a peer that ends inside the body
+pub read-fits : (s : List ℕ) (at : ℕ) → at + peerSize (getD s at 0) ≤ length s
+    → readPeer s at ≡ record { number = 0; peer = peerAt s at; next = at + peerSize (getD s at 0) }
+unfolding readPeer
+read-fits s at h = let l : at ≤ length s = omega arith in simp (le-ltb _ _ l, le-leb _ _ h)
+
+-- ---- a peer's octets
+pub length-peer : (p : Peer) → length (peerOctets p) ≡ peerSize (p .kind)
+unfolding peerOctets peerSize
+length-peer p =
+    let kinds : List ℕ = p .kind ∷ [] in
+    let ids : List ℕ = bytesOf 4 (p .id) in
+    let address : List ℕ = octetsAt (p .addr) 0 (addressSize (p .kind)) in
+    let asn : List ℕ = bytesOf (asSize (p .kind)) (p .asn) in
+    let a : length (kinds ++ ids ++ address ++ asn) ≡ length (kinds ++ ids ++ address) + length asn = length-append
+    (kinds ++ ids ++ address) asn in
+    let b : length (kinds ++ ids ++ address) ≡ length (kinds ++ ids) + length address = length-append (kinds ++ ids) address in
+    let c : length (kinds ++ ids) ≡ 1 + length ids = length-append kinds ids in
+    let d : length ids ≡ 4 = length-bytes 4 (p .id) in
+    let e : length address ≡ addressSize (p .kind) = length-octets (p .addr) 0 (addressSize (p .kind)) in
+    let f : length asn ≡ asSize (p .kind) = length-bytes (asSize (p .kind)) (p .asn) in
+    omega arith

@@ -2,10 +2,12 @@
 use Prim.Native.Nat.{ℕ, zero, suc, _+_, _-_, _<_, _≤_}
 use mathlib.Core.Path.{_≡_, refl, sym, _∙_, ap}
 use mathlib.Core.List.{List, []}
+use mathlib.Core.Bool.{Bool, true, false}
 use native.Mathlib.Nat.{zero-add, suc-add}
 use native.Mathlib.Numerals.{add-one}
 use native.Mathlib.Omega.{arith}
-use borrow.Author.Tests.{le-leb, lt-leb}
+use borrow.Author.Tests.{le-leb, lt-leb, leb-true}
+use lib.Dec.{leb}
 use lib.ListN.{length, getD, take, drop, length-drop, drop-of-length-le}
 use lib.Seq.{take-all}
 use Rattle.octets.specs.Octets.{beAt, part}
@@ -73,13 +75,15 @@ module _ (s : List ℕ) where
   pub short-name : {l : ℕ} → l ≡ beAt s 4 2 → 8 ≤ length s → length s - 8 < l → refused 7 ≡ checkPeers s
   short-name l h k = over (omega (arith, head-within, first-is, name-is))
 
-  pub short-peer : {p z i n : ℕ} → n ≡ peerCount s → i < n → p ≡ endAt s (firstPeer s) i → z ≡ peerSize (getD s p 0) → p ≤ length s → length s - p < z → refused 7 ≡ checkPeers s
+  pub short-peer : {p z i n : ℕ} → n ≡ peerCount s → i < n → p ≡ endAt s (firstPeer s) i → z ≡ peerSize (getD s p 0) → p ≤ length s
+      → length s - p < z → refused 7 ≡ checkPeers s
   short-peer {p} {z} {i} {n} c h e f l k =
       let t : p + z ≡ endAt s (firstPeer s) (i + 1) = end-turn s (firstPeer s) i e f in
       let w : endAt s (firstPeer s) (i + 1) ≤ lastEnd s = within (i + 1) (omega arith) in
       over (omega arith)
 
-  pub held : {c l n f e i : ℕ} → c ≡ beAt s 0 4 → l ≡ beAt s 4 2 → n ≡ peerCount s → f ≡ firstPeer s → e ≡ endAt s (firstPeer s) i → i ≤ n → n ≤ i → e ≤ length s
+  pub held : {c l n f e i : ℕ} → c ≡ beAt s 0 4 → l ≡ beAt s 4 2 → n ≡ peerCount s → f ≡ firstPeer s → e ≡ endAt s (firstPeer s) i → i ≤ n
+      → n ≤ i → e ≤ length s
       → record { number = 0; collector = c; name = 6; length = l; count = n; first = f; end = e } ≡ checkPeers s
   unfolding checkPeers nameLength
   held {c} {l} {n} {f} {e} {i} hc hl hn hf he u v h =
@@ -106,3 +110,14 @@ module _ (s : List ℕ) (at n : ℕ) where
 
   pub name-whole : take (at + n - at) (drop at s) ≡ part s at n
   name-whole = let e : at + n - at ≡ n = omega arith in rw e
+
+-- ---- a body that passed: each declared peer ends inside it
+module _ (s : List ℕ) (i : ℕ) where
+  pub held-within : i < checkPeers s .count → endAt s (checkPeers s .first) (i + 1) ≤ length s
+  unfolding checkPeers
+  held-within = case (leb (lastEnd s) (length s)) refl
+    where
+      case : (t : Bool) → leb (lastEnd s) (length s) ≡ t → i < checkPeers s .count → endAt s (checkPeers s .first) (i + 1) ≤ length s
+      case true e = simp e (λ h. let w : endAt s (firstPeer s) (i + 1) ≤ lastEnd s = within s (i + 1) (omega arith) in
+          omega (arith, leb-true (lastEnd s) (length s) e))
+      case false e = simp e (λ h. absurd (omega arith))

@@ -55,9 +55,11 @@ pub record Reading : Type 0 where
   pub peer : Peer
   pub next : ℕ
 
+-- a refusal has its number, and 0 in every other field
 abbrev pub unread : ℕ → Reading
 unread n = record { number = n; peer = nobody; next = 0 }
 
+-- what each answer of the reader says
 abbrev pub reading : PeerRead → Reading
 reading r = record { number = outcomeNumber (r .outcome); peer = r .peer; next = r .next }
 

@@ -26,6 +26,7 @@ pub record Heading : Type 0 where
 abbrev pub refused : ℕ → Heading
 refused n = record { number = n; collector = 0; name = 0; length = 0; count = 0; first = 0; end = 0 }
 
+-- what each answer of the check says
 abbrev pub heading : TableAnswer → Heading
 heading (Table collector name length count first end) =
     record { number = 0; collector = collector; name = name; length = length; count = count; first = first; end = end }
@@ -36,16 +37,19 @@ unfoldable pub endAt : List ℕ → ℕ → ℕ → ℕ
 endAt s at zero = at
 endAt s at (suc n) = endAt s at n + peerSize (getD s (endAt s at n) 0)
 
--- the length of the view name, how many peers are declared, where the first one starts and where the last one ends
+-- the length of the view name
 unfoldable pub nameLength : List ℕ → ℕ
 nameLength s = beAt s 4 2
 
+-- how many peers are declared
 unfoldable pub peerCount : List ℕ → ℕ
 peerCount s = beAt s (6 + nameLength s) 2
 
+-- where the first peer starts
 unfoldable pub firstPeer : List ℕ → ℕ
 firstPeer s = 8 + nameLength s
 
+-- where the last declared peer ends
 unfoldable pub lastEnd : List ℕ → ℕ
 lastEnd s = endAt s (firstPeer s) (peerCount s)
 
@@ -53,5 +57,13 @@ lastEnd s = endAt s (firstPeer s) (peerCount s)
 unfoldable pub checkPeers : List ℕ → Heading
 checkPeers s =
     cond (leb (lastEnd s) (length s))
-    (record { number = 0; collector = beAt s 0 4; name = 6; length = nameLength s; count = peerCount s; first = firstPeer s; end = lastEnd s })
+    (record {
+      number = 0;
+      collector = beAt s 0 4;
+      name = 6;
+      length = nameLength s;
+      count = peerCount s;
+      first = firstPeer s;
+      end = lastEnd s;
+    })
     (refused 7)

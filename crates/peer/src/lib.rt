@@ -16,6 +16,7 @@ pub use record::read_peer;
 pub use table::check_peers;
 pub use table::view_name;
 
+// A peer, as the slots hold it.
 pub struct Peer {
     // The type octet: value 1 means an IPv6 address, value 2 an AS of four octets.
     pub kind: u8,
@@ -25,6 +26,7 @@ pub struct Peer {
     pub asn: u32,
 }
 
+// What reading one peer answers.
 pub struct PeerRead {
     pub outcome: Outcome,
     pub peer: Peer,
@@ -32,6 +34,7 @@ pub struct PeerRead {
     pub next: usize,
 }
 
+// What the check of a body answers.
 pub enum TableAnswer {
     Table {
         collector: u32,

@@ -1,24 +1,24 @@
 -- The entry i and the whole body, one law for each way through the calls.
 use Prim.Native.Nat.{ℕ, _+_, _-_, _<_, _≤_}
-use mathlib.Core.Path.{_≡_, refl, sym, _∙_, ap}
+use mathlib.Core.Path.{_≡_, refl, _∙_, ap}
 use mathlib.Core.Bool.{Bool, true, false, cond}
 use mathlib.Core.List.{List}
 use native.Mathlib.Omega.{arith}
-use lib.ListN.{length, getD, replicate}
+use lib.ListN.{length, getD}
 use lib.Dec.{ltb}
-use borrow.Author.Tests.{eq-eqb, lt-ltb, le-ltb, ltb-true, ltb-false}
+use borrow.Author.Tests.{eq-eqb, le-ltb, ltb-false}
 use Rattle.answer.specs.Refusal.{numberOf}
 use Rattle.answer.specs.declared.Refusal.{Refusal}
 use Rattle.octets.specs.Octets.{beAt}
 use Rattle.rib.specs.Layout.{pathSize, prefixSize}
 use Rattle.rib.specs.Prefix.{prefixAt}
 use Rattle.rib.specs.Head.{bitsOf, declared, entriesAt, checkRib}
-use Rattle.rib.specs.Entry.{Entered, noEntry, entryHere, fits, passed, readCount, entryOf, firstOf, cursorValues}
+use Rattle.rib.specs.Entry.{Entered, noEntry, entryHere, passed, readCount, entryOf, firstOf, cursorValues}
 use Rattle.rib.specs.Rib.{noRib, ribOf}
 use Rattle.rib.specs.declared.Cursor.{Cursor}
 use Rattle.rib.specs.declared.CursorAnswer.{CursorAnswer}
 use Rattle.rib.specs.declared.CursorAnswer.the-variants as cursor-answer
-use Rattle.rib.proofs.Missing.{number-refusal}
+use Rattle.answer.proofs.Refusals.{number-refusal}
 use Rattle.rib.proofs.Heads.{met-within, met-bits}
 use Rattle.rib.proofs.Passing.{left-le, stops-at}
 use Rattle.rib.proofs.Steps.{first-refused, first-check, first-cursor}
@@ -30,14 +30,16 @@ module _ (s : List ℕ) (t : ℕ) where
   count-le = omega arith
 
   -- the entry i, where the head can be read
-  pub entry-met : checkRib s t ≡ 0 → (i : ℕ) → i < declared s → entryHere (pathSize t) s (passed (pathSize t) s (entriesAt s) i .at) ≡ entryOf s t i
+  pub entry-met : checkRib s t ≡ 0 → (i : ℕ) → i < declared s
+      → entryHere (pathSize t) s (passed (pathSize t) s (entriesAt s) i .at) ≡ entryOf s t i
   unfolding entryOf readCount entryHere
   entry-met h i l = rw (eq-eqb (checkRib s t) 0 h) (by-test (ltb i (readCount s t)) refl)
     where
       place : ℕ
       place = passed (pathSize t) s (entriesAt s) i .at
 
-      by-test : (b : Bool) → ltb i (readCount s t) ≡ b → entryHere (pathSize t) s place ≡ cond b (entryHere (pathSize t) s place) (noEntry 8)
+      by-test : (b : Bool) → ltb i (readCount s t) ≡ b
+          → entryHere (pathSize t) s place ≡ cond b (entryHere (pathSize t) s place) (noEntry 8)
       by-test true e = refl
       by-test false e = rw (stops-at (pathSize t) s (entriesAt s) (declared s) i l (ltb-false i (readCount s t) e))
 
@@ -83,6 +85,15 @@ module _ (s : List ℕ) (t : ℕ) where
       -- the body, read
       pub rib-met : {c : Cursor} → c ≡ passed (pathSize t) s (d .at) (d .left) → {q b : ℕ} {x : List ℕ}
           → q ≡ beAt s 0 4 → b ≡ getD s 4 0 → x ≡ prefixAt b s
-          → record { number = 0; sequence = q; bits = b; prefix = x; declared = d .left; count = d .left - c .left; entries = d .at } ≡ ribOf s t
+          →
+          record {
+            number = 0;
+            sequence = q;
+            bits = b;
+            prefix = x;
+            declared = d .left;
+            count = d .left - c .left;
+            entries = d .at;
+          } ≡ ribOf s t
       unfolding ribOf readCount bitsOf
       rib-met g q e x = rw (eq-eqb (checkRib s t) 0 (first-check s t a said v), g, x, e, q, left-first, at-first)

@@ -5,12 +5,12 @@ use mathlib.Core.Bool.{Bool, true, false, _&&_, not, cond}
 use mathlib.Core.List.{List}
 use native.Mathlib.Omega.{arith}
 use lib.ListN.{length, getD}
-use lib.Dec.{leb, eqb}
+use lib.Dec.{leb}
 use borrow.Author.Tests.{le-leb, lt-leb, leb-true, leb-false, not-true, not-false}
 use Rattle.rib.specs.Layout.{carried, mostBits, pathSize, prefixSize, layoutOf}
 use Rattle.rib.specs.declared.Layout.{Layout}
-use Rattle.rib.proofs.Layouts.{most-bits-le}
 use Rattle.rib.specs.Head.{bitsOf, entriesAt, readable, checkRib}
+use Rattle.rib.proofs.Layouts.{most-bits-le}
 
 module _ (most : ℕ) (s : List ℕ) {bits : ℕ} (b : bits ≡ getD s 4 0) where
   -- too many prefix bits
@@ -21,7 +21,9 @@ module _ (most : ℕ) (s : List ℕ) {bits : ℕ} (b : bits ≡ getD s 4 0) wher
   -- a body shorter than any head
   pub readable-short : length s < 7 → false ≡ readable most s
   unfolding readable entriesAt
-  readable-short h = let l : length s < 7 + prefixSize (bitsOf s) = omega arith in rw (lt-leb (7 + prefixSize (bitsOf s)) (length s) l) (sym (and-false (leb (bitsOf s) most)))
+  readable-short h =
+      let l : length s < 7 + prefixSize (bitsOf s) =
+      omega arith in rw (lt-leb (7 + prefixSize (bitsOf s)) (length s) l) (sym (and-false (leb (bitsOf s) most)))
     where
       and-false : (t : Bool) → t && false ≡ false
       and-false true = refl
@@ -36,8 +38,11 @@ module _ (most : ℕ) (s : List ℕ) {bits : ℕ} (b : bits ≡ getD s 4 0) wher
       rw (le-leb (getD s 4 0) most k, m) (by-test (leb (prefixSize (getD s 4 0)) (length s - 7)) refl)
     where
       by-test : (t : Bool) → leb (prefixSize (getD s 4 0)) (length s - 7) ≡ t → t ≡ leb (7 + prefixSize (getD s 4 0)) (length s)
-      by-test true e = let f = leb-true (prefixSize (getD s 4 0)) (length s - 7) e in sym (le-leb (7 + prefixSize (getD s 4 0)) (length s) (omega arith))
-      by-test false e = let f = leb-false (prefixSize (getD s 4 0)) (length s - 7) e in sym (lt-leb (7 + prefixSize (getD s 4 0)) (length s) (omega arith))
+      by-test true e =
+          let f = leb-true (prefixSize (getD s 4 0)) (length s - 7) e in sym (le-leb (7 + prefixSize (getD s 4 0)) (length s) (omega arith))
+      by-test false e =
+          let f =
+          leb-false (prefixSize (getD s 4 0)) (length s - 7) e in sym (lt-leb (7 + prefixSize (getD s 4 0)) (length s) (omega arith))
 
 -- whether a subtype is carried, from its layout
 module _ (t : ℕ) {l : Layout} (e : l ≡ layoutOf t) where
@@ -91,12 +96,15 @@ module _ (s : List ℕ) (t : ℕ) where
       by-tests true h = refl
       by-tests false h = absurd (omega arith)
 
-  -- and the prefix is no longer than an address
-  pub met-bits : checkRib s t ≡ 0 → bitsOf s ≤ 128
+  -- and the prefix is no longer than the subtype allows, and so than an address
+  pub met-most : checkRib s t ≡ 0 → bitsOf s ≤ mostBits t
   unfolding checkRib readable
-  met-bits h = by-tests (carried t) (leb (bitsOf s) (mostBits t)) (leb (entriesAt s) (length s)) refl h
+  met-most h = by-tests (carried t) (leb (bitsOf s) (mostBits t)) (leb (entriesAt s) (length s)) refl h
     where
-      by-tests : (a b c : Bool) → leb (bitsOf s) (mostBits t) ≡ b → _≡_ {A = ℕ} (cond a (cond (b && c) 0 7) 6) 0 → bitsOf s ≤ 128
-      by-tests a true c e h = let k = leb-true (bitsOf s) (mostBits t) e in omega (arith, most-bits-le t)
+      by-tests : (a b c : Bool) → leb (bitsOf s) (mostBits t) ≡ b → _≡_ {A = ℕ} (cond a (cond (b && c) 0 7) 6) 0 → bitsOf s ≤ mostBits t
+      by-tests a true c e h = leb-true (bitsOf s) (mostBits t) e
       by-tests true false c e h = absurd (omega arith)
       by-tests false false c e h = absurd (omega arith)
+
+  pub met-bits : checkRib s t ≡ 0 → bitsOf s ≤ 128
+  met-bits h = let m = met-most h in omega (arith, most-bits-le t)

@@ -1,22 +1,20 @@
 -- Entries that fit and entries that do not, and what is passed of them.
 use Prim.Native.Nat.{ℕ, zero, suc, _+_, _-_, _<_, _≤_}
 use mathlib.Core.Path.{_≡_, refl, sym, _∙_, ap}
-use mathlib.Core.Bool.{Bool, true, false, cond}
+use mathlib.Core.Bool.{Bool, true, false, cond, true≢false}
 use mathlib.Core.List.{List}
 use native.Mathlib.Omega.{arith}
 use lib.ListN.{length}
-use lib.Dec.{leb, eqb}
-use borrow.Author.Tests.{le-leb, lt-leb, leb-true, leb-false}
-use mathlib.Core.Bool.{true≢false}
-use borrow.Author.Tests.{eq-eqb}
+use lib.Dec.{leb}
+use borrow.Author.Tests.{le-leb, lt-leb, eq-eqb}
 use Rattle.answer.specs.Refusal.{numberOf}
 use Rattle.answer.specs.declared.Refusal.{Refusal}
 use Rattle.octets.specs.Octets.{beAt}
 use Rattle.rib.specs.declared.Entry.{Entry}
 use Rattle.rib.specs.declared.EntryAnswer.{EntryAnswer}
 use Rattle.rib.specs.declared.EntryAnswer.the-variants.{Read, Refused}
-use Rattle.rib.proofs.Missing.{number-refusal}
 use Rattle.rib.specs.Entry.{Entered, noEntry, attributesAt, entryEnd, fits, entryHere, entryValues, passed}
+use Rattle.answer.proofs.Refusals.{number-refusal}
 
 module _ (p : ℕ) (s : List ℕ) (at : ℕ) where
   fits-not : length s < entryEnd p s at → fits p s at ≡ false
@@ -103,7 +101,8 @@ pub passed-read : (p : ℕ) (s : List ℕ) (at n : ℕ) → 0 < n → (a : Entry
 passed-read p s at n h a said v = rw (here-end p s at a said v) (passed-on p s at n h (here-fits p s at a said v))
 
 -- and one that was not stops it
-pub passed-unread : (p : ℕ) (s : List ℕ) (at n : ℕ) → 0 < n → (a : EntryAnswer) → entryValues a ≡ entryHere p s at → {r : Refusal} → a ≡ Refused r
+pub passed-unread : (p : ℕ) (s : List ℕ) (at n : ℕ) → 0 < n → (a : EntryAnswer) → entryValues a ≡ entryHere p s at → {r : Refusal}
+    → a ≡ Refused r
     → record { at = at; left = n } ≡ passed p s at n
 passed-unread p s at n h a said v = passed-stop p s at n h (here-unfit p s at a said v)
 
@@ -140,5 +139,8 @@ stops-at p s at (suc n) zero l h =
     (λ f. f)
 stops-at p s at (suc n) (suc i) l h =
     by-fit p s at (fits p s (passed p s at (suc i) .at) ≡ false)
-    (λ f. let k = rw f at h in let m = left-le p s (entryEnd p s at) n in rw f (stops-at p s (entryEnd p s at) n i (omega arith) (omega arith)))
+    (λ f.
+    let k = rw f at h in
+    let m = left-le p s (entryEnd p s at) n in
+    rw f (stops-at p s (entryEnd p s at) n i (omega arith) (omega arith)))
     (λ f. rw f f)

@@ -1,26 +1,27 @@
 -- What a cursor's step answers, one law for each way through it, and what the head's check lets through.
-use Prim.Native.Nat.{ℕ, zero, suc, _+_, _-_, _<_, _≤_}
+use Prim.Native.Nat.{ℕ, zero, suc, _+_, _-_}
 use mathlib.Core.Path.{_≡_, refl, sym, _∙_, ap}
-use mathlib.Core.Bool.{Bool, true, false, cond}
+use mathlib.Core.Bool.{true, false}
 use mathlib.Core.List.{List}
-use lib.Dec.{eqb, eqb·suc-zero}
+use lib.Dec.{eqb·suc-zero}
+use lib.ListN.{getD}
 use borrow.Author.Tests.{eq-eqb, ne-eqb}
 use Rattle.answer.specs.Refusal.{numberOf, outcomeNumber}
 use Rattle.answer.specs.declared.Refusal.{Refusal}
 use Rattle.answer.specs.declared.Outcome.{Outcome}
 use Rattle.answer.specs.declared.Outcome.the-variants as outcome
+use Rattle.octets.specs.Octets.{beAt}
 use Rattle.rib.specs.Layout.{carried, pathSize, prefixSize}
 use Rattle.rib.specs.Head.{bitsOf, countAt, declared, entriesAt, checkRib}
-use Rattle.rib.specs.Entry.{Placed, noStep, entryValues, fits, entryEnd, entryHere, passed, placed, firstOf, afterOf, nextOf, cursorValues}
+use Rattle.rib.specs.Entry.{Placed, noStep, entryValues, fits, entryEnd, entryHere, passed, placed, firstOf, afterOf, nextOf}
+use Rattle.rib.specs.Entry.{cursorValues}
 use Rattle.rib.specs.declared.Cursor.{Cursor}
 use Rattle.rib.specs.declared.Entry.{Entry}
 use Rattle.rib.specs.declared.EntryAnswer.{EntryAnswer}
 use Rattle.rib.specs.declared.EntryAnswer.the-variants as entry-answer
 use Rattle.rib.specs.declared.CursorAnswer.{CursorAnswer}
 use Rattle.rib.specs.declared.CursorAnswer.the-variants as cursor-answer
-use Rattle.octets.specs.Octets.{beAt}
-use lib.ListN.{getD}
-use Rattle.rib.proofs.Missing.{number-refusal}
+use Rattle.answer.proofs.Refusals.{number-refusal}
 use Rattle.rib.proofs.Passing.{here-fits, here-end}
 
 module _ (s : List ℕ) (t : ℕ) (c : Cursor) where
@@ -55,7 +56,8 @@ module _ (s : List ℕ) (t : ℕ) where
   unfolding placed
   placed-met h c = rw (eq-eqb (checkRib s t) 0 h)
 
-  pub placed-unmet : (r : Refusal) → numberOf r ≡ checkRib s t → (c : Cursor) → record { number = numberOf r; at = 0; left = 0 } ≡ placed s t c
+  pub placed-unmet : (r : Refusal) → numberOf r ≡ checkRib s t → (c : Cursor)
+      → record { number = numberOf r; at = 0; left = 0 } ≡ placed s t c
   unfolding placed
   placed-unmet r h c = rw (← h, number-refusal r)
 
@@ -123,6 +125,7 @@ module _ (s : List ℕ) (t : ℕ) (a : CursorAnswer) (said : cursorValues a ≡ 
     first-cursor = placed-cursor s t a (record { at = entriesAt s; left = declared s }) said v
 
     -- the cursor where reading stops
-    pub after-met : {r : Cursor} → r ≡ passed (pathSize t) s (d .at) (d .left) → record { number = 0; at = r .at; left = r .left } ≡ afterOf s t
+    pub after-met : {r : Cursor} → r ≡ passed (pathSize t) s (d .at) (d .left)
+        → record { number = 0; at = r .at; left = r .left } ≡ afterOf s t
     unfolding afterOf
     after-met e = rw (e, first-cursor) (placed-met s t first-check (passed (pathSize t) s (entriesAt s) (declared s)))

@@ -33,13 +33,15 @@ noEntry n = record { number = n; peer = 0; originated = 0; path = 0; start = 0; 
 
 -- what each answer says
 abbrev pub entryValues : EntryAnswer → Entered
-entryValues (entry-answer.Read e) = record { number = 0; peer = e .peer; originated = e .originated; path = e .path; start = e .start; end = e .end }
+entryValues (entry-answer.Read e) =
+    record { number = 0; peer = e .peer; originated = e .originated; path = e .path; start = e .start; end = e .end }
 entryValues (entry-answer.Refused r) = noEntry (numberOf r)
 
--- where the attributes of the entry at an offset start, and where they end
+-- where the attributes of the entry at an offset start
 unfoldable pub attributesAt : ℕ → ℕ → ℕ
 attributesAt p at = at + (8 + p)
 
+-- where they end, and the entry with them
 unfoldable pub entryEnd : ℕ → List ℕ → ℕ → ℕ
 entryEnd p s at = attributesAt p at + beAt s (at + (6 + p)) 2
 
@@ -51,7 +53,14 @@ fits p s at = leb (entryEnd p s at) (length s)
 unfoldable pub entryHere : ℕ → List ℕ → ℕ → Entered
 entryHere p s at =
     cond (fits p s at)
-    (record { number = 0; peer = beAt s at 2; originated = beAt s (at + 2) 4; path = beAt s (at + 6) p; start = attributesAt p at; end = entryEnd p s at })
+    (record {
+      number = 0;
+      peer = beAt s at 2;
+      originated = beAt s (at + 2) 4;
+      path = beAt s (at + 6) p;
+      start = attributesAt p at;
+      end = entryEnd p s at;
+    })
     (noEntry 8)
 
 -- of n entries from an offset on those are passed that fit, up to the first that does not: where that stops, and how many are left
@@ -83,7 +92,8 @@ cursorValues (cursor-answer.Refused r) = record { number = numberOf r; at = 0; l
 
 -- the cursor c, where the head of s can be read
 unfoldable pub placed : List ℕ → ℕ → Cursor → Placed
-placed s t c = cond (eqb (checkRib s t) 0) (record { number = 0; at = c .at; left = c .left }) (record { number = checkRib s t; at = 0; left = 0 })
+placed s t c =
+    cond (eqb (checkRib s t) 0) (record { number = 0; at = c .at; left = c .left }) (record { number = checkRib s t; at = 0; left = 0 })
 
 -- the cursor at the first entry, with every declared entry left
 unfoldable pub firstOf : List ℕ → ℕ → Placed
@@ -107,7 +117,8 @@ noStep n = record { number = n; handed = false; entry = noEntry 0; at = 0; left 
 
 -- what each answer says
 abbrev pub nextValues : NextAnswer → Stepped
-nextValues (next-answer.Entry e c) = record { number = 0; handed = true; entry = entryValues (entry-answer.Read e); at = c .at; left = c .left }
+nextValues (next-answer.Entry e c) =
+    record { number = 0; handed = true; entry = entryValues (entry-answer.Read e); at = c .at; left = c .left }
 nextValues next-answer.End = noStep 0
 nextValues (next-answer.Refused r) = noStep (numberOf r)
 
@@ -117,6 +128,12 @@ nextOf s t c =
     cond (carried t)
     (cond (eqb (c .left) 0) (noStep 0)
     (cond (fits (pathSize t) s (c .at))
-    (record { number = 0; handed = true; entry = entryHere (pathSize t) s (c .at); at = entryEnd (pathSize t) s (c .at); left = c .left - 1 })
+    (record {
+      number = 0;
+      handed = true;
+      entry = entryHere (pathSize t) s (c .at);
+      at = entryEnd (pathSize t) s (c .at);
+      left = c .left - 1;
+    })
     (noStep 0)))
     (noStep 6)

@@ -12,10 +12,11 @@ use Rattle.rib.specs.Layout.{carried, mostBits, prefixSize}
 unfoldable pub bitsOf : List ℕ → ℕ
 bitsOf s = getD s 4 0
 
--- where the entry count stands, and how many entries it declares
+-- where the entry count stands
 unfoldable pub countAt : List ℕ → ℕ
 countAt s = 5 + prefixSize (bitsOf s)
 
+-- how many entries it declares
 unfoldable pub declared : List ℕ → ℕ
 declared s = beAt s (countAt s) 2
 

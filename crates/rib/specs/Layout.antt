@@ -5,10 +5,11 @@ use mathlib.Core.Bool.{Bool, _||_, cond}
 use lib.Dec.{eqb}
 use Rattle.rib.specs.declared.Layout.{Layout}
 
--- the subtypes of IPv4 prefixes, and those of IPv6 prefixes
+-- the subtypes of IPv4 prefixes
 unfoldable pub ipv4 : ℕ → Bool
 ipv4 t = eqb t 2 || eqb t 3 || eqb t 8 || eqb t 9
 
+-- the subtypes of IPv6 prefixes
 unfoldable pub ipv6 : ℕ → Bool
 ipv6 t = eqb t 4 || eqb t 5 || eqb t 10 || eqb t 11
 

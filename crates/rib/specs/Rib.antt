@@ -28,11 +28,28 @@ noRib n = record { number = n; sequence = 0; bits = 0; prefix = replicate 16 0; 
 
 -- what an answer says
 abbrev pub ribValues : Rib → Reading
-ribValues r = record { number = outcomeNumber (r .outcome); sequence = r .sequence; bits = r .bits; prefix = r .prefix; declared = r .declared; count = r .count; entries = r .entries }
+ribValues r =
+    record {
+      number = outcomeNumber (r .outcome);
+      sequence = r .sequence;
+      bits = r .bits;
+      prefix = r .prefix;
+      declared = r .declared;
+      count = r .count;
+      entries = r .entries;
+    }
 
 -- the body s of subtype t, read
 unfoldable pub ribOf : List ℕ → ℕ → Reading
 ribOf s t =
     cond (eqb (checkRib s t) 0)
-    (record { number = 0; sequence = beAt s 0 4; bits = bitsOf s; prefix = prefixAt (bitsOf s) s; declared = declared s; count = readCount s t; entries = entriesAt s })
+    (record {
+      number = 0;
+      sequence = beAt s 0 4;
+      bits = bitsOf s;
+      prefix = prefixAt (bitsOf s) s;
+      declared = declared s;
+      count = readCount s t;
+      entries = entriesAt s;
+    })
     (noRib (checkRib s t))

@@ -1,7 +1,5 @@
 // What a subtype decides, and whether the head of a body can be read.
 ghost use mathlib.Core.Path.{_≡_};
-ghost use Prim.Native.Nat.{_+_, _≤_};
-ghost use lib.ListN.{length, getD};
 ghost use Rattle.answer.specs.Refusal.{outcomeNumber};
 ghost use Rattle.rib.specs.Layout.{layoutOf, prefixSize};
 ghost use Rattle.rib.specs.Head.{readable, checkRib};

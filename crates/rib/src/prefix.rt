@@ -1,7 +1,7 @@
 // The prefix, and the bits after it, which are cleared.
 ghost use mathlib.Core.Path.{_≡_};
 ghost use Prim.Native.Nat.{_+_, _<_, _≤_};
-ghost use lib.ListN.{length, getD};
+ghost use lib.ListN.{length};
 ghost use Rattle.rib.specs.Prefix.{masked, cleared, prefixAt};
 ghost use Rattle.rib.specs.Layout.{prefixSize};
 use crate::head::prefix_size;

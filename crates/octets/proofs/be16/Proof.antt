@@ -3,43 +3,31 @@ use Rattle.octets.proofs.Numbers.{be-beyond, be-halves, be-one}
 use borrow.Author.Needs.{needs}
 use Rattle.octets.proofs.be16.Statement.{statement}
 use Rattle.octets.proofs.be16.Tie as tie
-use Rattle.octets.proofs.be16.Reads as reads
-use Rattle.octets.proofs.be16.Lts as lts
-use Rattle.octets.proofs.octet.Reads as octet-reads
 
--- src/lib.rt:23:9
 returns : tie.Need-returns
 returns c = sym (be-beyond _ _ 2 (c .if1 .taken))
 
--- src/lib.rt:25:16
 octet-requires : tie.Need-octet-requires
 octet-requires c κs = search needs
 
--- src/lib.rt:25:16
 cast-high : tie.Need-cast-high
 cast-high c = search needs
 
--- src/lib.rt:26:24
 add-octet : tie.Need-add-octet
 add-octet c = search needs
 
--- src/lib.rt:26:15
 octet-requires-2 : tie.Need-octet-requires-2
 octet-requires-2 c κs = search needs
 
--- src/lib.rt:26:15
 cast-low : tie.Need-cast-low
 cast-low c = search needs
 
--- src/lib.rt:27:5
 mul-result : tie.Need-mul-result
 mul-result c = search needs
 
--- src/lib.rt:27:5
 add-result : tie.Need-add-result
 add-result c = search needs
 
--- src/lib.rt:19:1
 returns-2 : tie.Need-returns-2
 returns-2 c = be-halves _ _ 1 1 (c .before .octet .ensures ∙ be-one _ _) (c .octet2 .ensures ∙ be-one _ _)
 

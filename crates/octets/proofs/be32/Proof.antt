@@ -3,43 +3,31 @@ use Rattle.octets.proofs.Numbers.{be-beyond, be-halves}
 use borrow.Author.Needs.{needs}
 use Rattle.octets.proofs.be32.Statement.{statement}
 use Rattle.octets.proofs.be32.Tie as tie
-use Rattle.octets.proofs.be32.Reads as reads
-use Rattle.octets.proofs.be32.Lts as lts
-use Rattle.octets.proofs.be16.Reads as be16-reads
 
--- src/lib.rt:35:9
 returns : tie.Need-returns
 returns c = sym (be-beyond _ _ 4 (c .if1 .taken))
 
--- src/lib.rt:37:16
 be16-requires : tie.Need-be16-requires
 be16-requires c κs = search needs
 
--- src/lib.rt:37:16
 cast-high : tie.Need-cast-high
 cast-high c = search needs
 
--- src/lib.rt:38:23
 add-be16 : tie.Need-add-be16
 add-be16 c = search needs
 
--- src/lib.rt:38:15
 be16-requires-2 : tie.Need-be16-requires-2
 be16-requires-2 c κs = search needs
 
--- src/lib.rt:38:15
 cast-low : tie.Need-cast-low
 cast-low c = search needs
 
--- src/lib.rt:39:5
 mul-result : tie.Need-mul-result
 mul-result c = search needs
 
--- src/lib.rt:39:5
 add-result : tie.Need-add-result
 add-result c = search needs
 
--- src/lib.rt:31:1
 returns-2 : tie.Need-returns-2
 returns-2 c = be-halves _ _ 2 2 (c .before .be16 .ensures) (c .be162 .ensures)
 

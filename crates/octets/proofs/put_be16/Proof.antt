@@ -5,39 +5,28 @@ use Rattle.octets.proofs.Stores.{patch-beyond, stores}
 use borrow.Author.Needs.{needs}
 use Rattle.octets.proofs.put_be16.Statement.{statement}
 use Rattle.octets.proofs.put_be16.Tie as tie
-use Rattle.octets.proofs.put_be16.Reads as reads
-use Rattle.octets.proofs.put_be16.Lts as lts
-use Rattle.octets.proofs.put_octet.Reads as put-octet-reads
 
--- src/lib.rt:56:9
 returns : tie.Need-returns
 returns c = patch-beyond _ _ _ (c .if1 .taken)
 
--- src/lib.rt:58:24
 cast-put-octet : tie.Need-cast-put-octet
 cast-put-octet c = search needs
 
--- src/lib.rt:58:5
 put-octet-requires : tie.Need-put-octet-requires
 put-octet-requires c κs = search needs
 
--- src/lib.rt:59:20
 add-put-octet : tie.Need-add-put-octet
 add-put-octet c = search needs
 
--- src/lib.rt:59:28
 cast-put-octet-2 : tie.Need-cast-put-octet-2
 cast-put-octet-2 c = search needs
 
--- src/lib.rt:59:5
 put-octet-requires-2 : tie.Need-put-octet-requires-2
 put-octet-requires-2 c κs = search needs
 
--- src/lib.rt:52:1
 same-length : tie.Need-same-length
 same-length c = search needs
 
--- src/lib.rt:52:1
 returns-2 : tie.Need-returns-2
 unfolding bytesOf
 returns-2 c = stores _ _ 1 (_ ∷ []) (_ ∷ []) refl (c .before .before .before .before .before .before .put-octet .ensures) (c .before .before .put-octet2 .ensures)

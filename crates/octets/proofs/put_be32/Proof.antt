@@ -5,39 +5,28 @@ use Rattle.octets.proofs.Stores.{patch-beyond, stores}
 use borrow.Author.Needs.{needs}
 use Rattle.octets.proofs.put_be32.Statement.{statement}
 use Rattle.octets.proofs.put_be32.Tie as tie
-use Rattle.octets.proofs.put_be32.Reads as reads
-use Rattle.octets.proofs.put_be32.Lts as lts
-use Rattle.octets.proofs.put_be16.Reads as put-be16-reads
 
--- src/lib.rt:67:9
 returns : tie.Need-returns
 returns c = patch-beyond _ _ _ (c .if1 .taken)
 
--- src/lib.rt:69:23
 cast-put-be16 : tie.Need-cast-put-be16
 cast-put-be16 c = search needs
 
--- src/lib.rt:69:5
 put-be16-requires : tie.Need-put-be16-requires
 put-be16-requires c κs = search needs
 
--- src/lib.rt:70:19
 add-put-be16 : tie.Need-add-put-be16
 add-put-be16 c = search needs
 
--- src/lib.rt:70:27
 cast-put-be16-2 : tie.Need-cast-put-be16-2
 cast-put-be16-2 c = search needs
 
--- src/lib.rt:70:5
 put-be16-requires-2 : tie.Need-put-be16-requires-2
 put-be16-requires-2 c κs = search needs
 
--- src/lib.rt:63:1
 same-length : tie.Need-same-length
 same-length c = search needs
 
--- src/lib.rt:63:1
 returns-2 : tie.Need-returns-2
 returns-2 c = stores _ _ 2 _ _ (length-bytes 2 _) (c .before .before .before .before .before .before .put-be16 .ensures) (c .before .before .put-be162 .ensures) ∙ ap (patch _ _) (bytes-halves 2 2 _)
 

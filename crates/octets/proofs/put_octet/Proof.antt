@@ -4,23 +4,17 @@ use Rattle.octets.proofs.Stores.{patch-beyond}
 use borrow.Author.Needs.{needs}
 use Rattle.octets.proofs.put_octet.Statement.{statement}
 use Rattle.octets.proofs.put_octet.Tie as tie
-use Rattle.octets.proofs.put_octet.Reads as reads
-use Rattle.octets.proofs.put_octet.Lts as lts
 
--- src/lib.rt:47:9
 slice-write-out : tie.Need-slice-write-out
 slice-write-out c = search needs
 
--- src/lib.rt:43:1
 same-length : tie.Need-same-length
 same-length c = search needs
 
--- src/lib.rt:43:1
 returns : tie.Need-returns
 unfolding patch
 returns c = refl
 
--- src/lib.rt:43:1
 returns-2 : tie.Need-returns-2
 returns-2 c = patch-beyond _ _ _ (c .if1 .left)
 

@@ -2,39 +2,28 @@ use Rattle.checks.proofs.Messages.{marker-first, marker-second, marker-
 use borrow.Author.Needs.{needs}
 use Rattle.checks.proofs.bgp.is_marker.Statement.{statement}
 use Rattle.checks.proofs.bgp.is_marker.Tie as tie
-use Rattle.checks.proofs.bgp.is_marker.Reads as reads
-use Rattle.checks.proofs.bgp.is_marker.Lts as lts
-use Rattle.octets.proofs.be32.Reads as be32-reads
 
--- src/bgp.rt:32:8
 be32-requires : tie.Need-be32-requires
 be32-requires c κs = search needs
 
--- src/bgp.rt:33:9
 returns : tie.Need-returns
 returns c = marker-first _ (λ i. c .before .before .shared-slice-known .given i .fits) (c .before .be32 .ensures) (c .if1 .taken)
 
--- src/bgp.rt:35:8
 be32-requires-2 : tie.Need-be32-requires-2
 be32-requires-2 c κs = search needs
 
--- src/bgp.rt:36:9
 returns-2 : tie.Need-returns-2
 returns-2 c = marker-second _ (λ i. c .before .before .before .before .shared-slice-known .given i .fits) (c .before .be322 .ensures) (c .if2 .taken)
 
--- src/bgp.rt:38:8
 be32-requires-3 : tie.Need-be32-requires-3
 be32-requires-3 c κs = search needs
 
--- src/bgp.rt:39:9
 returns-3 : tie.Need-returns-3
 returns-3 c = marker-third _ (λ i. c .before .before .before .before .before .before .shared-slice-known .given i .fits) (c .before .be323 .ensures) (c .if3 .taken)
 
--- src/bgp.rt:41:5
 be32-requires-4 : tie.Need-be32-requires-4
 be32-requires-4 c κs = search needs
 
--- src/bgp.rt:29:1
 returns-4 : tie.Need-returns-4
 returns-4 c = marker-last _ (λ i. c .before .before .before .before .before .before .before .shared-slice-known .given i .fits) (c .before .before .before .before .before .before .be32 .ensures) (c .before .before .before .before .be322 .ensures) (c .before .before .be323 .ensures) (c .be324 .ensures) (c .before .before .before .before .before .if1 .left) (c .before .before .before .if2 .left) (c .before .if3 .left)
 

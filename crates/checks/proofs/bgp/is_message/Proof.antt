@@ -1,61 +1,43 @@
 use borrow.Author.Tests.{not-true, not-false}
-use mathlib.Core.Path.{sym, _∙_, ap, refl}
+use mathlib.Core.Path.{sym, _∙_}
 use Rattle.checks.proofs.Messages.{message-short, message-unmarked, message-unfilled, message-low, message-high}
 use borrow.Author.Needs.{needs}
 use Rattle.checks.proofs.bgp.is_message.Statement.{statement}
 use Rattle.checks.proofs.bgp.is_message.Tie as tie
-use Rattle.checks.proofs.bgp.is_message.Reads as reads
-use Rattle.checks.proofs.bgp.is_message.Lts as lts
-use Rattle.checks.proofs.bgp.is_marker.Reads as is-marker-reads
-use Rattle.checks.proofs.bgp.message_bounds.Reads as message-bounds-reads
-use Rattle.octets.proofs.be16.Reads as be16-reads
-use Rattle.octets.proofs.octet.Reads as octet-reads
 
--- src/bgp.rt:12:9
 returns : tie.Need-returns
 returns c = message-short _ (c .if1 .taken)
 
--- src/bgp.rt:14:9
 is-marker-requires : tie.Need-is-marker-requires
 is-marker-requires c κs = search needs
 
--- src/bgp.rt:15:9
 returns-2 : tie.Need-returns-2
 returns-2 c = message-unmarked _ (c .before .before .if1 .left) (sym (c .before .is-marker .ensures) ∙ not-true _ (c .if2 .taken))
 
--- src/bgp.rt:17:9
 be16-requires : tie.Need-be16-requires
 be16-requires c κs = search needs
 
--- src/bgp.rt:18:8
 cast-if3 : tie.Need-cast-if3
 cast-if3 c = search needs
 
--- src/bgp.rt:19:9
 returns-3 : tie.Need-returns-3
 returns-3 c = message-unfilled _ (c .before .before .before .before .if1 .left) (sym (c .before .before .before .is-marker .ensures) ∙ not-false _ (c .before .before .if2 .left)) (c .before .be16 .ensures) (c .if3 .taken)
 
--- src/bgp.rt:21:28
 octet-requires : tie.Need-octet-requires
 octet-requires c κs = search needs
 
--- src/bgp.rt:21:9
 message-bounds-requires : tie.Need-message-bounds-requires
 message-bounds-requires c κs = search needs
 
--- src/bgp.rt:22:9
 cast-if4 : tie.Need-cast-if4
 cast-if4 c = search needs
 
--- src/bgp.rt:23:9
 returns-4 : tie.Need-returns-4
 returns-4 c = message-low _ (c .before .before .before .before .before .before .before .before .if1 .left) (sym (c .before .before .before .before .before .before .before .is-marker .ensures) ∙ not-false _ (c .before .before .before .before .before .before .if2 .left)) (c .before .before .before .before .before .be16 .ensures) (c .before .before .before .before .if3 .left) (c .before .before .before .octet .ensures) (c .before .before .message-bounds .ensures) (c .if4 .taken)
 
--- src/bgp.rt:25:5
 cast-result : tie.Need-cast-result
 cast-result c = search needs
 
--- src/bgp.rt:7:1
 returns-5 : tie.Need-returns-5
 returns-5 c = message-high _ (c .before .before .before .before .before .before .before .before .before .if1 .left) (sym (c .before .before .before .before .before .before .before .before .is-marker .ensures) ∙ not-false _ (c .before .before .before .before .before .before .before .if2 .left)) (c .before .before .before .before .before .before .be16 .ensures) (c .before .before .before .before .before .if3 .left) (c .before .before .before .before .octet .ensures) (c .before .before .before .message-bounds .ensures) (c .before .if4 .left)
 

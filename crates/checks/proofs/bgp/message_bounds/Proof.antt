@@ -1,32 +1,25 @@
-use mathlib.Core.Path.{sym, _∙_, ap, refl}
+use mathlib.Core.Path.{sym, ap}
 use Rattle.checks.specs.Message.{messageBounds}
 use Rattle.checks.proofs.Messages.{message-rest}
 use Rattle.checks.proofs.bgp.message_bounds.Statement.{statement}
 use Rattle.checks.proofs.bgp.message_bounds.Tie as tie
-use Rattle.checks.proofs.bgp.message_bounds.Reads as reads
-use Rattle.checks.proofs.bgp.message_bounds.Lts as lts
 
--- src/bgp.rt:44:1
 returns : tie.Need-returns
 unfolding messageBounds
 returns c = ap messageBounds (sym (c .match .keys1))
 
--- src/bgp.rt:44:1
 returns-2 : tie.Need-returns-2
 unfolding messageBounds
 returns-2 c = ap messageBounds (sym (c .match .keys2))
 
--- src/bgp.rt:44:1
 returns-3 : tie.Need-returns-3
 unfolding messageBounds
 returns-3 c = ap messageBounds (sym (c .match .keys3))
 
--- src/bgp.rt:44:1
 returns-4 : tie.Need-returns-4
 unfolding messageBounds
 returns-4 c = ap messageBounds (sym (c .match .keys4))
 
--- src/bgp.rt:44:1
 returns-5 : tie.Need-returns-5
 returns-5 c = message-rest _ (c .match .rest .0 .0 .0 .1) (c .match .rest .0 .0 .1) (c .match .rest .0 .1) (c .match .rest .1)
 

@@ -1,22 +1,17 @@
-use mathlib.Core.Path.{sym, _∙_, ap, refl}
+use mathlib.Core.Path.{sym, ap}
 use Rattle.checks.specs.Bgp4mp.{addressSize}
 use Rattle.checks.proofs.Envelopes.{address-rest}
 use Rattle.checks.proofs.bgp4mp.address_size.Statement.{statement}
 use Rattle.checks.proofs.bgp4mp.address_size.Tie as tie
-use Rattle.checks.proofs.bgp4mp.address_size.Reads as reads
-use Rattle.checks.proofs.bgp4mp.address_size.Lts as lts
 
--- src/bgp4mp.rt:67:1
 returns : tie.Need-returns
 unfolding addressSize
 returns c = ap addressSize (sym (c .match .keys1))
 
--- src/bgp4mp.rt:67:1
 returns-2 : tie.Need-returns-2
 unfolding addressSize
 returns-2 c = ap addressSize (sym (c .match .keys2))
 
--- src/bgp4mp.rt:67:1
 returns-3 : tie.Need-returns-3
 returns-3 c = address-rest _ (c .match .rest .0 .1) (c .match .rest .1)
 

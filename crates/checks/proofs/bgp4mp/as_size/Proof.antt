@@ -1,22 +1,17 @@
-use mathlib.Core.Path.{sym, _∙_, ap, refl}
+use mathlib.Core.Path.{refl}
 use Rattle.checks.specs.Bgp4mp.{asSize, asSizes}
 use Rattle.checks.proofs.Envelopes.{as-size-rest}
 use borrow.Author.Needs.{needs}
 use Rattle.checks.proofs.bgp4mp.as_size.Statement.{statement}
 use Rattle.checks.proofs.bgp4mp.as_size.Tie as tie
-use Rattle.checks.proofs.bgp4mp.as_size.Reads as reads
-use Rattle.checks.proofs.bgp4mp.as_size.Lts as lts
 
--- src/bgp4mp.rt:61:16
 array-read-result : tie.Need-array-read-result
 array-read-result c = search needs
 
--- src/bgp4mp.rt:61:9
 returns : tie.Need-returns
 unfolding asSize asSizes
 returns c = refl
 
--- src/bgp4mp.rt:56:1
 returns-2 : tie.Need-returns-2
 returns-2 c = as-size-rest _ (c .if1 .left)
 

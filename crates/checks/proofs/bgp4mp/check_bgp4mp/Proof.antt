@@ -2,102 +2,73 @@ use Rattle.checks.proofs.Envelopes.{bgp4mp-other, bgp4mp-short, bgp4mp-
 use borrow.Author.Needs.{needs}
 use Rattle.checks.proofs.bgp4mp.check_bgp4mp.Statement.{statement}
 use Rattle.checks.proofs.bgp4mp.check_bgp4mp.Tie as tie
-use Rattle.checks.proofs.bgp4mp.check_bgp4mp.Reads as reads
-use Rattle.checks.proofs.bgp4mp.check_bgp4mp.Lts as lts
-use Rattle.checks.proofs.bgp4mp.address_size.Reads as address-size-reads
-use Rattle.checks.proofs.bgp4mp.as_size.Reads as as-size-reads
-use Rattle.checks.proofs.bgp4mp.ends_well.Reads as ends-well-reads
-use Rattle.octets.proofs.be16.Reads as be16-reads
 
--- src/bgp4mp.rt:12:13
 as-size-requires : tie.Need-as-size-requires
 as-size-requires c κs = search needs
 
--- src/bgp4mp.rt:12:13
 cast-a : tie.Need-cast-a
 cast-a c = search needs
 
--- src/bgp4mp.rt:14:9
 returns : tie.Need-returns
 returns c = bgp4mp-other _ _ (c .before .as-size .ensures) (c .if1 .taken)
 
--- src/bgp4mp.rt:17:12
 mul-if2 : tie.Need-mul-if2
 mul-if2 c = search needs
 
--- src/bgp4mp.rt:17:12
 add-if2 : tie.Need-add-if2
 add-if2 c = search needs
 
--- src/bgp4mp.rt:18:9
 returns-2 : tie.Need-returns-2
 returns-2 c = bgp4mp-short _ _ (c .before .before .as-size .ensures) (c .before .if1 .left) (c .if2 .taken)
 
--- src/bgp4mp.rt:20:45
 mul-be16 : tie.Need-mul-be16
 mul-be16 c = search needs
 
--- src/bgp4mp.rt:20:45
 add-be16 : tie.Need-add-be16
 add-be16 c = search needs
 
--- src/bgp4mp.rt:20:26
 be16-requires : tie.Need-be16-requires
 be16-requires c κs = search needs
 
--- src/bgp4mp.rt:20:13
 address-size-requires : tie.Need-address-size-requires
 address-size-requires c κs = search needs
 
--- src/bgp4mp.rt:20:13
 cast-x : tie.Need-cast-x
 cast-x c = search needs
 
--- src/bgp4mp.rt:22:9
 returns-3 : tie.Need-returns-3
 returns-3 c = bgp4mp-family _ _ (c .before .before .before .before .before .as-size .ensures) (c .before .before .before .before .if1 .left) (c .before .before .before .if2 .left) (c .before .before .be16 .ensures) (c .before .address-size .ensures) (c .if3 .taken)
 
--- src/bgp4mp.rt:24:14
 mul-at : tie.Need-mul-at
 mul-at c = search needs
 
--- src/bgp4mp.rt:24:14
 add-at : tie.Need-add-at
 add-at c = search needs
 
--- src/bgp4mp.rt:24:26
 mul-at-2 : tie.Need-mul-at-2
 mul-at-2 c = search needs
 
--- src/bgp4mp.rt:24:14
 add-at-2 : tie.Need-add-at-2
 add-at-2 c = search needs
 
--- src/bgp4mp.rt:26:9
 returns-4 : tie.Need-returns-4
 returns-4 c = bgp4mp-cut _ _ (c .before .before .before .before .before .before .as-size .ensures) (c .before .before .before .before .before .if1 .left) (c .before .before .before .before .if2 .left) (c .before .before .before .be16 .ensures) (c .before .before .address-size .ensures) (c .before .if3 .left) (c .if4 .taken)
 
--- src/bgp4mp.rt:28:18
 sub-ends-well : tie.Need-sub-ends-well
 sub-ends-well c = search needs
 
--- src/bgp4mp.rt:28:18
 part-ends-well-start : tie.Need-part-ends-well-start
 part-ends-well-start c = search needs
 
--- src/bgp4mp.rt:28:18
 part-ends-well-end : tie.Need-part-ends-well-end
 part-ends-well-end c = search needs
 
--- src/bgp4mp.rt:28:8
 ends-well-requires : tie.Need-ends-well-requires
 ends-well-requires c κs = search needs
 
--- src/bgp4mp.rt:29:9
 returns-5 : tie.Need-returns-5
 returns-5 c = bgp4mp-met _ _ (c .before .before .before .before .before .before .before .before .before .as-size .ensures) (c .before .before .before .before .before .before .before .before .if1 .left) (c .before .before .before .before .before .before .before .if2 .left) (c .before .before .before .before .before .before .be16 .ensures) (c .before .before .before .before .before .address-size .ensures) (c .before .before .before .before .if3 .left) (c .before .before .before .if4 .left) (c .before .ends-well .ensures) (c .if5 .taken)
 
--- src/bgp4mp.rt:9:1
 returns-6 : tie.Need-returns-6
 returns-6 c = bgp4mp-unmet _ _ (c .before .before .before .before .before .before .before .before .before .as-size .ensures) (c .before .before .before .before .before .before .before .before .if1 .left) (c .before .before .before .before .before .before .before .if2 .left) (c .before .before .before .before .before .before .be16 .ensures) (c .before .before .before .before .before .address-size .ensures) (c .before .before .before .before .if3 .left) (c .before .before .before .if4 .left) (c .before .ends-well .ensures) (c .if5 .left)
 

@@ -5,15 +5,10 @@ use mathlib.Core.Path.{ap}
 use borrow.Author.Needs.{needs}
 use Rattle.checks.proofs.bgp4mp.is_carried.Statement.{statement}
 use Rattle.checks.proofs.bgp4mp.is_carried.Tie as tie
-use Rattle.checks.proofs.bgp4mp.is_carried.Reads as reads
-use Rattle.checks.proofs.bgp4mp.is_carried.Lts as lts
-use Rattle.checks.proofs.bgp4mp.as_size.Reads as as-size-reads
 
--- src/bgp4mp.rt:60:5
 as-size-requires : tie.Need-as-size-requires
 as-size-requires c κs = search needs
 
--- src/bgp4mp.rt:57:1
 returns : tie.Need-returns
 returns c = ap (λ (x : ℕ). not (eqb x 0)) (c .as-size .ensures)
 

@@ -2,27 +2,19 @@ use Rattle.checks.proofs.Lengths.{legacy-other, legacy-short, legacy-lo
 use borrow.Author.Needs.{needs}
 use Rattle.checks.proofs.legacy.check_legacy.Statement.{statement}
 use Rattle.checks.proofs.legacy.check_legacy.Tie as tie
-use Rattle.checks.proofs.legacy.check_legacy.Reads as reads
-use Rattle.checks.proofs.legacy.check_legacy.Lts as lts
-use Rattle.checks.proofs.legacy.legacy_bounds.Reads as legacy-bounds-reads
 
--- src/legacy.rt:13:9
 legacy-bounds-requires : tie.Need-legacy-bounds-requires
 legacy-bounds-requires c κs = search needs
 
--- src/legacy.rt:15:9
 returns : tie.Need-returns
 returns c = legacy-other _ _ _ (c .before .before .legacy-bounds .ensures) (c .if1 .taken)
 
--- src/legacy.rt:18:9
 returns-2 : tie.Need-returns-2
 returns-2 c = legacy-short _ _ _ (c .before .before .before .before .legacy-bounds .ensures) (c .before .before .if1 .left) (c .if2 .taken)
 
--- src/legacy.rt:21:9
 returns-3 : tie.Need-returns-3
 returns-3 c = legacy-long _ _ _ (c .before .before .before .before .before .before .legacy-bounds .ensures) (c .before .before .before .before .if1 .left) (c .before .before .if2 .left) (c .if3 .taken)
 
--- src/legacy.rt:10:1
 returns-4 : tie.Need-returns-4
 returns-4 c = legacy-met _ _ _ (c .before .before .before .before .before .before .legacy-bounds .ensures) (c .before .before .before .before .if1 .left) (c .before .before .if2 .left) (c .if3 .left)
 

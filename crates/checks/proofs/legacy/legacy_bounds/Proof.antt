@@ -1,37 +1,29 @@
-use mathlib.Core.Path.{sym, _∙_, ap, refl}
+use mathlib.Core.Path.{sym, ap}
 use Rattle.checks.specs.Legacy.{legacyBounds}
 use Rattle.checks.proofs.Lengths.{legacy-rest}
 use Rattle.checks.proofs.legacy.legacy_bounds.Statement.{statement}
 use Rattle.checks.proofs.legacy.legacy_bounds.Tie as tie
-use Rattle.checks.proofs.legacy.legacy_bounds.Reads as reads
-use Rattle.checks.proofs.legacy.legacy_bounds.Lts as lts
 
--- src/legacy.rt:26:1
 returns : tie.Need-returns
 unfolding legacyBounds
 returns c = ap legacyBounds (sym (c .match .keys1))
 
--- src/legacy.rt:26:1
 returns-2 : tie.Need-returns-2
 unfolding legacyBounds
 returns-2 c = ap legacyBounds (sym (c .match .keys2))
 
--- src/legacy.rt:26:1
 returns-3 : tie.Need-returns-3
 unfolding legacyBounds
 returns-3 c = ap legacyBounds (sym (c .match .keys3))
 
--- src/legacy.rt:26:1
 returns-4 : tie.Need-returns-4
 unfolding legacyBounds
 returns-4 c = ap legacyBounds (sym (c .match .keys4))
 
--- src/legacy.rt:26:1
 returns-5 : tie.Need-returns-5
 unfolding legacyBounds
 returns-5 c = ap legacyBounds (sym (c .match .keys5))
 
--- src/legacy.rt:26:1
 returns-6 : tie.Need-returns-6
 returns-6 c = legacy-rest _ (c .match .rest .0 .0 .0 .0 .1) (c .match .rest .0 .0 .0 .1) (c .match .rest .0 .0 .1) (c .match .rest .0 .1) (c .match .rest .1)
 

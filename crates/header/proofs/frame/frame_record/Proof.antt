@@ -7,56 +7,41 @@ use Rattle.header.proofs.Framing.{read-room, frame-refused, frame-cut, 
 use borrow.Author.Needs.{needs}
 use Rattle.header.proofs.frame.frame_record.Statement.{statement}
 use Rattle.header.proofs.frame.frame_record.Tie as tie
-use Rattle.header.proofs.frame.frame_record.Reads as reads
-use Rattle.header.proofs.frame.frame_record.Lts as lts
-use Rattle.header.proofs.kind.header_size.Reads as header-size-reads
-use Rattle.header.proofs.read.read_header.Reads as read-header-reads
 
 -- the header that was read
 was-read : (c : tie.After-header-size) → values (HeaderAnswer.Read (c .before .before .before .before .header .given .0 .0) (c .before .before .before .before .header .given .0 .1 .0)) ≡ headerAt (c .before .before .before .before .before .before .before .before .args .s .now) (c .before .before .before .before .before .before .before .before .args .at)
 was-read c = sym (ap values (c .before .before .before .before .header .given .1)) ∙ c .before .before .before .before .before .before .read-header .ensures
 
--- src/frame.rt:15:11
 read-header-requires : tie.Need-read-header-requires
 read-header-requires c κs = search needs
 
--- src/frame.rt:16:31
 enum-known-r : tie.Need-enum-known-r
 enum-known-r c = search needs
 
--- src/frame.rt:17:30
 enum-known-header : tie.Need-enum-known-header
 enum-known-header c = search needs
 
--- src/frame.rt:19:26
 cast-stored : tie.Need-cast-stored
 cast-stored c = search needs
 
--- src/frame.rt:20:29
 header-size-requires : tie.Need-header-size-requires
 header-size-requires c κs = search needs
 
--- src/frame.rt:20:24
 add-body : tie.Need-add-body
 add-body c = let r = read-room _ _ (was-read c) in let z = c .header-size .ensures in omega arith
 
--- src/frame.rt:21:16
 sub-if1 : tie.Need-sub-if1
 sub-if1 c = let r = read-room _ _ (was-read c) in let z = c .header-size .ensures in omega arith
 
--- src/frame.rt:22:17
 returns : tie.Need-returns
 returns c = frame-cut _ _ (was-read (c .before)) _ (c .before .header-size .ensures) (c .if1 .taken)
 
--- src/frame.rt:28:22
 add-t12 : tie.Need-add-t12
 add-t12 c = let r = read-room _ _ (was-read (c .before)) in let z = c .before .header-size .ensures in omega arith
 
--- src/frame.rt:11:1
 returns-2 : tie.Need-returns-2
 returns-2 c = frame-refused _ _ _ (number-not-zero (c .before .r .given .0 .0)) (sym (ap values (c .before .r .given .1)) ∙ c .before .before .before .read-header .ensures)
 
--- src/frame.rt:11:1
 returns-3 : tie.Need-returns-3
 returns-3 c = frame-whole _ _ (was-read (c .before)) _ (c .before .header-size .ensures) (c .if1 .left)
 

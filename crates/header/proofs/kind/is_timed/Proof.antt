@@ -2,10 +2,7 @@ use Rattle.header.specs.Kind.{timed}
 use mathlib.Core.Path.{refl}
 use Rattle.header.proofs.kind.is_timed.Statement.{statement}
 use Rattle.header.proofs.kind.is_timed.Tie as tie
-use Rattle.header.proofs.kind.is_timed.Reads as reads
-use Rattle.header.proofs.kind.is_timed.Lts as lts
 
--- src/kind.rt:15:1
 returns : tie.Need-returns
 unfolding timed
 returns c = refl

@@ -7,13 +7,6 @@ use Rattle.header.proofs.Reading.{Fields, header-short, header-unknown,
 use borrow.Author.Needs.{needs}
 use Rattle.header.proofs.read.read_front.Statement.{statement}
 use Rattle.header.proofs.read.read_front.Tie as tie
-use Rattle.header.proofs.read.read_front.Reads as reads
-use Rattle.header.proofs.read.read_front.Lts as lts
-use Rattle.header.proofs.kind.is_known.Reads as is-known-reads
-use Rattle.header.proofs.kind.is_timed.Reads as is-timed-reads
-use Rattle.header.proofs.read.read.Reads as read-reads
-use Rattle.octets.proofs.be16.Reads as be16-reads
-use Rattle.octets.proofs.be32.Reads as be32-reads
 
 -- what is known once `is_known` has answered, and which way it answered
 fields : (c : tie.After-is-known) → Fields (c .before .before .before .before .before .before .before .args .s .now) (c .before .before .before .before .be32 .result) (c .before .before .before .be16 .result) (c .before .before .be162 .result) (c .before .be322 .result)
@@ -32,63 +25,48 @@ the-known c = sym (c .before .is-known .ensures) ∙ not-false _ (c .if2 .left)
 the-timed : (c : tie.Else3) → timed (c .before .before .before .before .before .before .be16 .result) ≡ true
 the-timed c = sym (c .before .is-timed .ensures) ∙ not-false _ (c .if3 .left)
 
--- src/read.rt:29:9
 returns : tie.Need-returns
 returns c = header-short _ (c .if1 .taken)
 
--- src/read.rt:31:9
 be32-requires : tie.Need-be32-requires
 be32-requires c κs = search needs
 
--- src/read.rt:32:9
 be16-requires : tie.Need-be16-requires
 be16-requires c κs = search needs
 
--- src/read.rt:33:9
 be16-requires-2 : tie.Need-be16-requires-2
 be16-requires-2 c κs = search needs
 
--- src/read.rt:34:9
 be32-requires-2 : tie.Need-be32-requires-2
 be32-requires-2 c κs = search needs
 
--- src/read.rt:35:9
 is-known-requires : tie.Need-is-known-requires
 is-known-requires c κs = search needs
 
--- src/read.rt:36:9
 returns-2 : tie.Need-returns-2
 returns-2 c = header-unknown (fields (c .before)) (sym (c .before .is-known .ensures) ∙ not-true _ (c .if2 .taken))
 
--- src/read.rt:38:9
 is-timed-requires : tie.Need-is-timed-requires
 is-timed-requires c κs = search needs
 
--- src/read.rt:39:9
 read-requires : tie.Need-read-requires
 read-requires c κs = search needs
 
--- src/read.rt:39:9
 returns-3 : tie.Need-returns-3
 returns-3 c = ap values (c .read .ensures) ∙ header-plain (fields (c .before .before .before .before)) (the-known (c .before .before .before)) (sym (c .before .before .is-timed .ensures) ∙ not-true _ (c .before .if3 .taken))
 
--- src/read.rt:42:9
 returns-4 : tie.Need-returns-4
 returns-4 c = header-tiny (fields (c .before .before .before .before)) (the-known (c .before .before .before)) (the-timed (c .before)) (c .if4 .taken)
 
--- src/read.rt:45:9
 returns-5 : tie.Need-returns-5
 returns-5 c = header-cut (fields (c .before .before .before .before .before)) (the-known (c .before .before .before .before)) (the-timed (c .before .before)) (c .before .if4 .left) (c .if5 .taken)
 
--- src/read.rt:47:9
 be32-requires-3 : tie.Need-be32-requires-3
 be32-requires-3 c κs = search needs
 
--- src/read.rt:48:5
 read-requires-2 : tie.Need-read-requires-2
 read-requires-2 c κs = search needs
 
--- src/read.rt:24:1
 returns-6 : tie.Need-returns-6
 returns-6 c = ap values (c .read2 .ensures) ∙ header-timed (fields (c .before .before .before .before .before .before .before)) (the-known (c .before .before .before .before .before .before)) (the-timed (c .before .before .before .before)) (c .before .before .before .if4 .left) (c .before .before .if5 .left) (c .before .be323 .ensures)
 

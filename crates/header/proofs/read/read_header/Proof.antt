@@ -2,31 +2,22 @@ use Rattle.header.proofs.Reading.{header-beyond, header-within}
 use borrow.Author.Needs.{needs}
 use Rattle.header.proofs.read.read_header.Statement.{statement}
 use Rattle.header.proofs.read.read_header.Tie as tie
-use Rattle.header.proofs.read.read_header.Reads as reads
-use Rattle.header.proofs.read.read_header.Lts as lts
-use Rattle.header.proofs.read.read_front.Reads as read-front-reads
 
--- src/read.rt:18:9
 returns : tie.Need-returns
 returns c = header-beyond _ _ (c .if1 .taken)
 
--- src/read.rt:20:16
 sub-read-front : tie.Need-sub-read-front
 sub-read-front c = search needs
 
--- src/read.rt:20:16
 part-read-front-start : tie.Need-part-read-front-start
 part-read-front-start c = search needs
 
--- src/read.rt:20:16
 part-read-front-end : tie.Need-part-read-front-end
 part-read-front-end c = search needs
 
--- src/read.rt:20:5
 read-front-requires : tie.Need-read-front-requires
 read-front-requires c κs = search needs
 
--- src/read.rt:14:1
 returns-2 : tie.Need-returns-2
 returns-2 c = header-within _ _ (c .before .before .if1 .left) (c .read-front .ensures)
 

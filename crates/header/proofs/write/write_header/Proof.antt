@@ -6,12 +6,6 @@ use Rattle.header.proofs.Writing.{write-unknown, timed-unfit, timed-ful
 use borrow.Author.Needs.{needs}
 use Rattle.header.proofs.write.write_header.Statement.{statement}
 use Rattle.header.proofs.write.write_header.Tie as tie
-use Rattle.header.proofs.write.write_header.Reads as reads
-use Rattle.header.proofs.write.write_header.Lts as lts
-use Rattle.header.proofs.kind.is_known.Reads as is-known-reads
-use Rattle.header.proofs.kind.is_timed.Reads as is-timed-reads
-use Rattle.header.proofs.write.put_common.Reads as put-common-reads
-use Rattle.octets.proofs.put_be32.Reads as put-be32-reads
 
 -- what the tests of the type have shown
 the-known : (c : tie.Else1) → known (c .before .before .before .before .args .header .kind) ≡ true
@@ -23,63 +17,48 @@ the-timed c = sym (c .before .is-timed .ensures) ∙ c .if2 .taken
 the-plain : (c : tie.Else2) → timed (c .before .before .before .before .before .before .args .header .kind) ≡ false
 the-plain c = sym (c .before .is-timed .ensures) ∙ c .if2 .left
 
--- src/write.rt:22:9
 is-known-requires : tie.Need-is-known-requires
 is-known-requires c κs = search needs
 
--- src/write.rt:23:9
 returns : tie.Need-returns
 returns c = write-unknown _ _ (sym (c .before .is-known .ensures) ∙ not-true _ (c .if1 .taken))
 
--- src/write.rt:25:8
 is-timed-requires : tie.Need-is-timed-requires
 is-timed-requires c κs = search needs
 
--- src/write.rt:27:13
 returns-2 : tie.Need-returns-2
 returns-2 c = timed-unfit _ _ (the-known (c .before .before .before .before)) (the-timed (c .before .before)) (c .if3 .taken)
 
--- src/write.rt:30:13
 returns-3 : tie.Need-returns-3
 returns-3 c = timed-full _ _ (the-known (c .before .before .before .before .before)) (the-timed (c .before .before .before)) (c .before .if3 .left) (c .if4 .taken)
 
--- src/write.rt:32:44
 add-t17 : tie.Need-add-t17
 add-t17 c = search needs
 
--- src/write.rt:32:9
 put-common-requires : tie.Need-put-common-requires
 put-common-requires c κs = search needs
 
--- src/write.rt:33:9
 put-be32-requires : tie.Need-put-be32-requires
 put-be32-requires c κs = search needs
 
--- src/write.rt:34:9
 same-length : tie.Need-same-length
 same-length c = search needs
 
--- src/write.rt:34:9
 returns-4 : tie.Need-returns-4
 returns-4 c = timed-stored _ _ (the-known (c .before .before .before .before .before .before .before .before .before .before .before .before .before .before)) (the-timed (c .before .before .before .before .before .before .before .before .before .before .before .before)) (c .before .before .before .before .before .before .before .before .before .before .if3 .left) (c .before .before .before .before .before .before .before .before .before .if4 .left) (c .before .before .before .before .before .before .put-common .ensures) (c .before .before .put-be32 .ensures)
 
--- src/write.rt:37:9
 returns-5 : tie.Need-returns-5
 returns-5 c = plain-unfit _ _ (the-known (c .before .before .before)) (the-plain (c .before)) (c .if5 .taken)
 
--- src/write.rt:40:9
 returns-6 : tie.Need-returns-6
 returns-6 c = plain-full _ _ (the-known (c .before .before .before .before)) (the-plain (c .before .before)) (c .before .if5 .left) (c .if6 .taken)
 
--- src/write.rt:42:5
 put-common-requires-2 : tie.Need-put-common-requires-2
 put-common-requires-2 c κs = search needs
 
--- src/write.rt:16:1
 same-length-2 : tie.Need-same-length-2
 same-length-2 c = search needs
 
--- src/write.rt:16:1
 returns-7 : tie.Need-returns-7
 returns-7 c = plain-stored _ _ (the-known (c .before .before .before .before .before .before .before .before)) (the-plain (c .before .before .before .before .before .before)) (c .before .before .before .before .before .if5 .left) (c .before .before .before .before .if6 .left) (c .before .before .put-common2 .ensures)
 

@@ -1,39 +1,28 @@
 use Rattle.peer.specs.Table.{Heading, heading}
-use mathlib.Core.Path.{_≡_, sym, _∙_, ap, refl}
+use mathlib.Core.Path.{sym, _∙_, ap}
 use Rattle.judge.proofs.Bodies.{dump-rib, dump-peers}
 use borrow.Author.Needs.{needs}
 use Rattle.judge.proofs.body.check_table_dump.Statement.{statement}
 use Rattle.judge.proofs.body.check_table_dump.Tie as tie
-use Rattle.judge.proofs.body.check_table_dump.Reads as reads
-use Rattle.judge.proofs.body.check_table_dump.Lts as lts
-use Rattle.peer.proofs.check_peers.Reads as check-peers-reads
-use Rattle.rib.proofs.check_rib.Reads as check-rib-reads
 
--- src/body.rt:27:9
 check-rib-requires : tie.Need-check-rib-requires
 check-rib-requires c κs = search needs
 
--- src/body.rt:27:9
 returns : tie.Need-returns
 returns c = c .check-rib .ensures ∙ dump-rib _ _ (c .before .if1 .taken)
 
--- src/body.rt:29:9
 check-peers-requires : tie.Need-check-peers-requires
 check-peers-requires c κs = search needs
 
--- src/body.rt:31:30
 enum-known-t : tie.Need-enum-known-t
 enum-known-t c = search needs
 
--- src/body.rt:39:14
 enum-told : tie.Need-enum-told
 enum-told c = search needs
 
--- src/body.rt:23:1
 returns-2 : tie.Need-returns-2
 returns-2 c = ap (λ (h : Heading). h .number) (sym (ap heading (c .before .t .given .1)) ∙ c .before .before .before .check-peers .ensures) ∙ dump-peers _ _ (c .before .before .before .before .if1 .left)
 
--- src/body.rt:23:1
 returns-3 : tie.Need-returns-3
 returns-3 c = ap (λ (h : Heading). h .number) (sym (ap heading (c .enum-told .given .1)) ∙ c .before .before .check-peers .ensures) ∙ dump-peers _ _ (c .before .before .before .if1 .left)
 

@@ -1,77 +1,54 @@
 use borrow.Author.Tests.{not-true, not-false}
 use Rattle.answer.proofs.Refusals.{number-not-zero}
 use Rattle.header.specs.Read.{values}
-use mathlib.Core.Path.{_≡_, sym, _∙_, ap, refl}
+use mathlib.Core.Path.{sym, _∙_, ap, refl}
 use Rattle.judge.proofs.Candidates.{candidate-beyond, candidate-short, candidate-other, candidate-unread, candidate-implausible, candidate-judged}
 use borrow.Author.Needs.{needs}
 use Rattle.judge.proofs.candidate.candidate_at.Statement.{statement}
 use Rattle.judge.proofs.candidate.candidate_at.Tie as tie
-use Rattle.judge.proofs.candidate.candidate_at.Reads as reads
-use Rattle.judge.proofs.candidate.candidate_at.Lts as lts
-use Rattle.header.proofs.read_header.Reads as read-header-reads
-use Rattle.judge.proofs.candidate.family_of.Reads as family-of-reads
-use Rattle.judge.proofs.candidate.is_plausible.Reads as is-plausible-reads
-use Rattle.judge.proofs.candidate.taken_up.Reads as taken-up-reads
-use Rattle.judge.proofs.record.judge_at.Reads as judge-at-reads
-use Rattle.octets.proofs.be16.Reads as be16-reads
 
--- src/candidate.rt:18:9
 returns : tie.Need-returns
 returns c = candidate-beyond _ _ (c .if1 .taken)
 
--- src/candidate.rt:21:9
 returns-2 : tie.Need-returns-2
 returns-2 c = candidate-short _ _ (c .before .if1 .left) (c .if2 .taken)
 
--- src/candidate.rt:24:34
 add-be16 : tie.Need-add-be16
 add-be16 c = search needs
 
--- src/candidate.rt:24:18
 be16-requires : tie.Need-be16-requires
 be16-requires c κs = search needs
 
--- src/candidate.rt:24:8
 family-of-requires : tie.Need-family-of-requires
 family-of-requires c κs = search needs
 
--- src/candidate.rt:25:9
 returns-3 : tie.Need-returns-3
 returns-3 c = candidate-other _ _ (c .before .before .before .before .if1 .left) (c .before .before .be16 .ensures) (c .before .family-of .ensures) (c .if3 .taken)
 
--- src/candidate.rt:27:50
 read-header-requires : tie.Need-read-header-requires
 read-header-requires c κs = search needs
 
--- src/candidate.rt:27:30
 enum-known-header : tie.Need-enum-known-header
 enum-known-header c = search needs
 
--- src/candidate.rt:28:9
 enum-told : tie.Need-enum-told
 enum-told c = search needs
 
--- src/candidate.rt:28:9
 returns-4 : tie.Need-returns-4
 returns-4 c = candidate-unread _ _ (c .before .before .before .before .before .before .before .if1 .left) (sym (ap values (c .enum-told .given .1)) ∙ c .before .before .read-header .ensures) (number-not-zero (c .enum-told .given .0 .0))
 
--- src/candidate.rt:30:9
 is-plausible-requires : tie.Need-is-plausible-requires
 is-plausible-requires c κs = search needs
 
--- src/candidate.rt:31:9
 returns-5 : tie.Need-returns-5
 returns-5 c = candidate-implausible _ _ (c .before .before .before .before .before .before .before .before .before .before .if1 .left) (sym (ap values (c .before .before .before .header .given .1)) ∙ c .before .before .before .before .before .read-header .ensures) (sym (c .before .is-plausible .ensures) ∙ not-true _ (c .if4 .taken))
 
--- src/candidate.rt:33:14
 judge-at-requires : tie.Need-judge-at-requires
 judge-at-requires c κs = search needs
 
--- src/candidate.rt:33:5
 taken-up-requires : tie.Need-taken-up-requires
 taken-up-requires c κs = search needs
 
--- src/candidate.rt:13:1
 returns-6 : tie.Need-returns-6
 returns-6 c = c .taken-up .ensures ∙ candidate-judged _ _ (c .before .before .before .before .before .before .before .before .before .before .before .before .if1 .left) (sym (ap values (c .before .before .before .before .before .header .given .1)) ∙ c .before .before .before .before .before .before .before .read-header .ensures) refl (sym (c .before .before .before .is-plausible .ensures) ∙ not-false _ (c .before .before .if4 .left)) (c .before .judge-at .ensures)
 

@@ -1,25 +1,18 @@
-use mathlib.Core.Path.{_≡_, sym, _∙_, ap, refl}
+use mathlib.Core.Path.{sym, _∙_}
 use Rattle.judge.proofs.Candidates.{evidence-legacy, evidence-states, evidence-marker}
 use borrow.Author.Needs.{needs}
 use Rattle.judge.proofs.candidate.evidence_of.Statement.{statement}
 use Rattle.judge.proofs.candidate.evidence_of.Tie as tie
-use Rattle.judge.proofs.candidate.evidence_of.Reads as reads
-use Rattle.judge.proofs.candidate.evidence_of.Lts as lts
-use Rattle.checks.proofs.is_state_change.Reads as is-state-change-reads
 
--- src/candidate.rt:94:9
 returns : tie.Need-returns
 returns c = evidence-legacy _ _ (c .if1 .taken)
 
--- src/candidate.rt:96:8
 is-state-change-requires : tie.Need-is-state-change-requires
 is-state-change-requires c κs = search needs
 
--- src/candidate.rt:97:9
 returns-2 : tie.Need-returns-2
 returns-2 c = evidence-states _ _ (c .before .before .if1 .left) (sym (c .before .is-state-change .ensures) ∙ c .if2 .taken)
 
--- src/candidate.rt:90:1
 returns-3 : tie.Need-returns-3
 returns-3 c = evidence-marker _ _ (c .before .before .if1 .left) (sym (c .before .is-state-change .ensures) ∙ c .if2 .left)
 

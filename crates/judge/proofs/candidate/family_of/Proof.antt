@@ -1,27 +1,21 @@
-use mathlib.Core.Path.{_≡_, sym, _∙_, ap, refl}
+use mathlib.Core.Path.{sym, ap}
 use Rattle.judge.specs.Candidate.{family}
 use Rattle.judge.proofs.Candidates.{family-rest}
 use Rattle.judge.proofs.candidate.family_of.Statement.{statement}
 use Rattle.judge.proofs.candidate.family_of.Tie as tie
-use Rattle.judge.proofs.candidate.family_of.Reads as reads
-use Rattle.judge.proofs.candidate.family_of.Lts as lts
 
--- src/candidate.rt:79:1
 returns : tie.Need-returns
 unfolding family
 returns c = ap family (sym (c .match .keys1))
 
--- src/candidate.rt:79:1
 returns-2 : tie.Need-returns-2
 unfolding family
 returns-2 c = ap family (sym (c .match .keys2))
 
--- src/candidate.rt:79:1
 returns-3 : tie.Need-returns-3
 unfolding family
 returns-3 c = ap family (sym (c .match .keys3))
 
--- src/candidate.rt:79:1
 returns-4 : tie.Need-returns-4
 returns-4 c = family-rest _ (c .match .rest .0 .0 .1) (c .match .rest .0 .1) (c .match .rest .1)
 

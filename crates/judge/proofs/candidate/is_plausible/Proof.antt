@@ -1,58 +1,42 @@
 use borrow.Author.Tests.{ne-eqb}
 use Rattle.answer.proofs.Refusals.{number-not-zero}
 use Rattle.answer.specs.Refusal.{outcomeNumber}
-use mathlib.Core.Path.{_≡_, sym, _∙_, ap, refl}
+use mathlib.Core.Path.{sym, _∙_, ap}
 use Rattle.judge.proofs.Candidates.{plausible-family, plausible-long, plausible-late, plausible-message, plausible-legacy}
 use borrow.Author.Needs.{needs}
 use Rattle.judge.proofs.candidate.is_plausible.Statement.{statement}
 use Rattle.judge.proofs.candidate.is_plausible.Tie as tie
-use Rattle.judge.proofs.candidate.is_plausible.Reads as reads
-use Rattle.judge.proofs.candidate.is_plausible.Lts as lts
-use Rattle.checks.proofs.is_carried.Reads as is-carried-reads
-use Rattle.checks.proofs.check_legacy.Reads as check-legacy-reads
-use Rattle.judge.proofs.candidate.family_of.Reads as family-of-reads
 
--- src/candidate.rt:61:8
 family-of-requires : tie.Need-family-of-requires
 family-of-requires c κs = search needs
 
--- src/candidate.rt:62:9
 returns : tie.Need-returns
 returns c = plausible-family _ _ _ _ (c .before .family-of .ensures) (c .if1 .taken)
 
--- src/candidate.rt:65:9
 returns-2 : tie.Need-returns-2
 returns-2 c = plausible-long _ _ _ _ (c .before .before .before .family-of .ensures) (c .before .before .if1 .left) (c .if2 .taken)
 
--- src/candidate.rt:68:9
 returns-3 : tie.Need-returns-3
 returns-3 c = plausible-late _ _ _ _ (c .before .before .before .before .before .family-of .ensures) (c .before .before .before .before .if1 .left) (c .before .before .if2 .left) (c .if3 .taken)
 
--- src/candidate.rt:71:9
 is-carried-requires : tie.Need-is-carried-requires
 is-carried-requires c κs = search needs
 
--- src/candidate.rt:71:9
 returns-4 : tie.Need-returns-4
 returns-4 c = c .is-carried .ensures ∙ plausible-message _ _ _ _ (c .before .before .before .before .before .before .before .family-of .ensures) (c .before .before .before .before .before .before .if1 .left) (c .before .before .before .before .if2 .left) (c .before .before .if3 .left) (c .before .if4 .taken)
 
--- src/candidate.rt:73:11
 check-legacy-requires : tie.Need-check-legacy-requires
 check-legacy-requires c κs = search needs
 
--- src/candidate.rt:74:30
 enum-told : tie.Need-enum-told
 enum-told c = search needs
 
--- src/candidate.rt:75:32
 enum-told-2 : tie.Need-enum-told-2
 enum-told-2 c = search needs
 
--- src/candidate.rt:56:1
 returns-5 : tie.Need-returns-5
 returns-5 c = plausible-legacy _ _ _ _ (c .before .before .before .before .before .before .before .before .before .family-of .ensures) (c .before .before .before .before .before .before .before .before .if1 .left) (c .before .before .before .before .before .before .if2 .left) (c .before .before .before .before .if3 .left) (c .before .before .before .if4 .left) (sym (ap outcomeNumber (c .enum-told .given .1)) ∙ c .before .before .check-legacy .ensures)
 
--- src/candidate.rt:56:1
 returns-6 : tie.Need-returns-6
 returns-6 c = sym (ne-eqb _ 0 (number-not-zero (c .enum-told2 .given .0 .0))) ∙ plausible-legacy _ _ _ _ (c .before .before .before .before .before .before .before .before .before .family-of .ensures) (c .before .before .before .before .before .before .before .before .if1 .left) (c .before .before .before .before .before .before .if2 .left) (c .before .before .before .before .if3 .left) (c .before .before .before .if4 .left) (sym (ap outcomeNumber (c .enum-told2 .given .1)) ∙ c .before .before .check-legacy .ensures)
 

@@ -2,40 +2,28 @@ use Rattle.judge.proofs.Candidates.{taken-cut, taken-off, taken-fit}
 use borrow.Author.Needs.{needs}
 use Rattle.judge.proofs.candidate.taken_up.Statement.{statement}
 use Rattle.judge.proofs.candidate.taken_up.Tie as tie
-use Rattle.judge.proofs.candidate.taken_up.Reads as reads
-use Rattle.judge.proofs.candidate.taken_up.Lts as lts
-use Rattle.judge.proofs.candidate.evidence_of.Reads as evidence-of-reads
-use Rattle.judge.proofs.candidate.family_of.Reads as family-of-reads
 
--- src/candidate.rt:41:28
 enum-told : tie.Need-enum-told
 enum-told c = search needs
 
--- src/candidate.rt:42:48
 enum-told-2 : tie.Need-enum-told-2
 enum-told-2 c = search needs
 
--- src/candidate.rt:44:13
 enum-known-v : tie.Need-enum-known-v
 enum-known-v c = search needs
 
--- src/candidate.rt:49:21
 family-of-requires : tie.Need-family-of-requires
 family-of-requires c κs = search needs
 
--- src/candidate.rt:50:23
 evidence-of-requires : tie.Need-evidence-of-requires
 evidence-of-requires c κs = search needs
 
--- src/candidate.rt:37:1
 returns : tie.Need-returns
 returns c = taken-cut _ (c .enum-told .given .1)
 
--- src/candidate.rt:37:1
 returns-2 : tie.Need-returns-2
 returns-2 c = taken-off _ (c .enum-told2 .given .1)
 
--- src/candidate.rt:37:1
 returns-3 : tie.Need-returns-3
 returns-3 c = taken-fit _ (c .before .before .before .v .given .1) (c .before .family-of .ensures) (c .evidence-of .ensures)
 

@@ -10,10 +10,6 @@ use Rattle.judge.proofs.Judging.{judged-cut, judged-off, judged-fit}
 use borrow.Author.Needs.{needs}
 use Rattle.judge.proofs.record.judge_at.Statement.{statement}
 use Rattle.judge.proofs.record.judge_at.Tie as tie
-use Rattle.judge.proofs.record.judge_at.Reads as reads
-use Rattle.judge.proofs.record.judge_at.Lts as lts
-use Rattle.header.proofs.frame_record.Reads as frame-record-reads
-use Rattle.judge.proofs.body.check_body.Reads as check-body-reads
 
 -- the frame that was found, and where its body stands
 abbrev the-frame : tie.After-header → Framing
@@ -25,55 +21,42 @@ was-framed c = sym (ap framing (c .header .given .1)) ∙ c .before .before .fra
 place : (c : tie.After-header) → Placed (c .before .before .before .before .before .args .s .now) (c .before .before .before .before .before .args .at) (the-frame c) (was-framed c) refl
 place c = framed-placed _ _ (the-frame c) (was-framed c) refl
 
--- src/record.rt:42:9
 returns : tie.Need-returns
 returns c = sym (judge-beyond _ _ (c .if1 .taken))
 
--- src/record.rt:44:11
 frame-record-requires : tie.Need-frame-record-requires
 frame-record-requires c κs = search needs
 
--- src/record.rt:45:30
 enum-known-r : tie.Need-enum-known-r
 enum-known-r c = search needs
 
--- src/record.rt:47:13
 enum-known-header : tie.Need-enum-known-header
 enum-known-header c = search needs
 
--- src/record.rt:53:30
 sub-check-body : tie.Need-sub-check-body
 sub-check-body c = let p = place (c .before .before) in let x = p .body in let y = p .end in omega arith
 
--- src/record.rt:53:30
 part-check-body-start : tie.Need-part-check-body-start
 part-check-body-start c = let p = place (c .before .before) in let x = p .body in let y = p .end in omega arith
 
--- src/record.rt:53:30
 part-check-body-end : tie.Need-part-check-body-end
 part-check-body-end c = let p = place (c .before .before) in let x = p .room in omega arith
 
--- src/record.rt:53:19
 check-body-requires : tie.Need-check-body-requires
 check-body-requires c κs = search needs
 
--- src/record.rt:54:34
 enum-known-refusal : tie.Need-enum-known-refusal
 enum-known-refusal c = search needs
 
--- src/record.rt:55:38
 enum-told : tie.Need-enum-told
 enum-told c = search needs
 
--- src/record.rt:38:1
 returns-2 : tie.Need-returns-2
 returns-2 c = judged-cut _ _ _ (number-not-zero (c .before .r .given .0 .0)) (c .before .before .before .before .if1 .left) (sym (ap framing (c .before .r .given .1)) ∙ c .before .before .before .frame-record .ensures)
 
--- src/record.rt:38:1
 returns-3 : tie.Need-returns-3
 returns-3 c = judged-off _ _ _ (was-framed (c .before .before .before .before .before .before .before)) refl (sym (ap outcomeNumber (c .before .refusal .given .1)) ∙ c .before .before .before .check-body .ensures) (number-not-zero (c .before .refusal .given .0 .0))
 
--- src/record.rt:38:1
 returns-4 : tie.Need-returns-4
 returns-4 c = judged-fit _ _ _ (was-framed (c .before .before .before .before .before .before)) refl (sym (ap outcomeNumber (c .enum-told .given .1)) ∙ c .before .before .check-body .ensures) refl
 

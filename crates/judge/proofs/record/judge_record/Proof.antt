@@ -1,42 +1,31 @@
-use mathlib.Core.Path.{_≡_, sym, _∙_, ap, refl}
+use mathlib.Core.Path.{sym, _∙_, ap}
 use Rattle.judge.specs.Record.{judged}
 use Rattle.judge.proofs.Judging.{judgement-beyond, judgement-within}
 use borrow.Author.Needs.{needs}
 use Rattle.judge.proofs.record.judge_record.Statement.{statement}
 use Rattle.judge.proofs.record.judge_record.Tie as tie
-use Rattle.judge.proofs.record.judge_record.Reads as reads
-use Rattle.judge.proofs.record.judge_record.Lts as lts
-use Rattle.judge.proofs.record.judge_at.Reads as judge-at-reads
 
--- src/record.rt:17:9
 returns : tie.Need-returns
 returns c = judgement-beyond _ _ (c .if1 .taken)
 
--- src/record.rt:19:11
 judge-at-requires : tie.Need-judge-at-requires
 judge-at-requires c κs = search needs
 
--- src/record.rt:20:22
 enum-known-r : tie.Need-enum-known-r
 enum-known-r c = search needs
 
--- src/record.rt:21:24
 enum-known-refusal : tie.Need-enum-known-refusal
 enum-known-refusal c = search needs
 
--- src/record.rt:23:13
 enum-known-header : tie.Need-enum-known-header
 enum-known-header c = search needs
 
--- src/record.rt:13:1
 returns-2 : tie.Need-returns-2
 returns-2 c = judgement-within _ _ (c .before .before .before .before .if1 .left) (sym (ap judged (c .before .r .given .1)) ∙ c .before .before .before .judge-at .ensures)
 
--- src/record.rt:13:1
 returns-3 : tie.Need-returns-3
 returns-3 c = judgement-within _ _ (c .before .before .before .before .if1 .left) (sym (ap judged (c .before .refusal .given .1)) ∙ c .before .before .before .judge-at .ensures)
 
--- src/record.rt:13:1
 returns-4 : tie.Need-returns-4
 returns-4 c = judgement-within _ _ (c .before .before .before .before .if1 .left) (sym (ap judged (c .before .header .given .1)) ∙ c .before .before .before .judge-at .ensures)
 

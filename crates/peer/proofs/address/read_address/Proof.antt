@@ -5,8 +5,6 @@ use Prim.Native.Nat.{_≤_, _-_}
 use native.Mathlib.Omega.{arith}
 use Rattle.peer.proofs.address.read_address.Statement.{statement}
 use Rattle.peer.proofs.address.read_address.Tie as tie
-use Rattle.peer.proofs.address.read_address.Reads as reads
-use Rattle.peer.proofs.address.read_address.Lts as lts
 
 abbrev Inv-loop : tie.InvT-loop
 Inv-loop s at n addr₀ i₀ addr i = (i ≤ n) × (addr ≡ addressAt s at i)
@@ -14,35 +12,27 @@ Inv-loop s at n addr₀ i₀ addr i = (i ≤ n) × (addr ≡ addressAt s at i)
 abbrev μ-loop : tie.MeasureT-loop
 μ-loop s at n addr₀ i₀ addr i = n - i
 
--- src/address.rt:16:5
 loop-holds : tie.Need-loop-holds Inv-loop μ-loop
 loop-holds c = (omega arith, address-none _ _)
 
--- src/address.rt:17:21
 add-addr : tie.Need-add-addr Inv-loop μ-loop
 add-addr c = omega arith
 
--- src/address.rt:17:19
 shared-slice-read-addr : tie.Need-shared-slice-read-addr Inv-loop μ-loop
 shared-slice-read-addr c = omega arith
 
--- src/address.rt:17:9
 array-write-addr : tie.Need-array-write-addr Inv-loop μ-loop
 array-write-addr c = omega arith
 
--- src/address.rt:18:9
 add-i : tie.Need-add-i Inv-loop μ-loop
 add-i c = omega arith
 
--- src/address.rt:16:5
 loop-less : tie.Need-loop-less Inv-loop μ-loop
 loop-less c = omega arith
 
--- src/address.rt:16:5
 loop-again : tie.Need-loop-again Inv-loop μ-loop
 loop-again c = (omega arith, address-turn _ _ _ (omega arith) (c .before .before .loop .inv .1))
 
--- src/address.rt:10:1
 returns : tie.Need-returns Inv-loop μ-loop
 returns c = c .before .loop .inv .1 ∙ ap (addressAt _ _) (omega arith)
 

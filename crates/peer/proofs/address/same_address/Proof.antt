@@ -4,24 +4,16 @@ use Rattle.peer.proofs.Records.{one-family, other-family}
 use borrow.Author.Needs.{needs}
 use Rattle.peer.proofs.address.same_address.Statement.{statement}
 use Rattle.peer.proofs.address.same_address.Tie as tie
-use Rattle.peer.proofs.address.same_address.Reads as reads
-use Rattle.peer.proofs.address.same_address.Lts as lts
-use Rattle.peer.proofs.address.same_octets.Reads as same-octets-reads
-use Rattle.peer.proofs.kind.address_size.Reads as address-size-reads
 
--- src/address.rt:57:9
 returns : tie.Need-returns
 returns c = other-family _ _ (c .if1 .taken)
 
--- src/address.rt:61:23
 address-size-requires : tie.Need-address-size-requires
 address-size-requires c κs = search needs
 
--- src/address.rt:61:5
 same-octets-requires : tie.Need-same-octets-requires
 same-octets-requires c κs = omega (arith, address-le (c .before .before .before .before .before .before .args .key .kind))
 
--- src/address.rt:53:1
 returns-2 : tie.Need-returns-2
 returns-2 c = one-family _ _ (c .before .before .before .before .if1 .left) (c .before .address-size .ensures) (c .same-octets .ensures)
 

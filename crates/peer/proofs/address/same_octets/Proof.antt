@@ -1,15 +1,11 @@
-use Prim.Native.Nat.{ℕ}
-use mathlib.Core.Path.{sym}
+use Prim.Native.Nat.{_≤_, _-_}
+use mathlib.Core.Path.{_≡_}
 use Rattle.peer.proofs.Addresses.{same-all, same-none, same-turn, differs}
 use Rattle.peer.specs.Peer.{sameOctets}
-use mathlib.Core.Path.{_≡_, _∙_, ap}
 use mathlib.Core.Bool.{true}
-use Prim.Native.Nat.{_≤_, _-_}
 use native.Mathlib.Omega.{arith}
 use Rattle.peer.proofs.address.same_octets.Statement.{statement}
 use Rattle.peer.proofs.address.same_octets.Tie as tie
-use Rattle.peer.proofs.address.same_octets.Reads as reads
-use Rattle.peer.proofs.address.same_octets.Lts as lts
 
 abbrev Inv-loop : tie.InvT-loop
 Inv-loop n a b i₀ i = (i ≤ n) × (sameOctets i a b ≡ true)
@@ -17,35 +13,27 @@ Inv-loop n a b i₀ i = (i ≤ n) × (sameOctets i a b ≡ true)
 abbrev μ-loop : tie.MeasureT-loop
 μ-loop n a b i₀ i = n - i
 
--- src/address.rt:43:5
 loop-holds : tie.Need-loop-holds Inv-loop μ-loop
 loop-holds c = (omega arith, same-none _ _)
 
--- src/address.rt:44:12
 array-read-if1 : tie.Need-array-read-if1 Inv-loop μ-loop
 array-read-if1 c = omega arith
 
--- src/address.rt:44:20
 array-read-if1-2 : tie.Need-array-read-if1-2 Inv-loop μ-loop
 array-read-if1-2 c = omega arith
 
--- src/address.rt:45:13
 returns : tie.Need-returns Inv-loop μ-loop
 returns c = differs _ _ _ _ (omega arith) (c .before .before .loop .inv .1) (c .if1 .taken)
 
--- src/address.rt:47:9
 add-i : tie.Need-add-i Inv-loop μ-loop
 add-i c = omega arith
 
--- src/address.rt:43:5
 loop-less : tie.Need-loop-less Inv-loop μ-loop
 loop-less c = omega arith
 
--- src/address.rt:43:5
 loop-again : tie.Need-loop-again Inv-loop μ-loop
 loop-again c = (omega arith, same-turn _ _ _ (c .before .before .loop .inv .1) (c .if1 .left))
 
--- src/address.rt:38:1
 returns-2 : tie.Need-returns-2 Inv-loop μ-loop
 returns-2 c = same-all _ _ _ (c .before .loop .inv .0) (c .loop-test .left) (c .before .loop .inv .1)
 

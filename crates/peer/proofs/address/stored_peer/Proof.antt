@@ -6,24 +6,23 @@ use Rattle.peer.proofs.Records.{store-is}
 use borrow.Author.Needs.{needs}
 use Rattle.peer.proofs.address.stored_peer.Statement.{statement}
 use Rattle.peer.proofs.address.stored_peer.Tie as tie
-use Rattle.peer.proofs.address.stored_peer.Reads as reads
-use Rattle.peer.proofs.address.stored_peer.Lts as lts
-use Rattle.peer.proofs.address.read_address.Reads as read-address-reads
-use Rattle.peer.proofs.kind.address_size.Reads as address-size-reads
 
--- src/address.rt:28:29
 slice-aggregate-read-address : tie.Need-slice-aggregate-read-address
 slice-aggregate-read-address c = search needs
 
--- src/address.rt:28:40
 address-size-requires : tie.Need-address-size-requires
 address-size-requires c κs = search needs
 
--- src/address.rt:28:9
 read-address-requires : tie.Need-read-address-requires
-read-address-requires c κs = let e : 16 ≡ length (c .before .before .before .args .p .addr) = slice-aggregate-read-address (c .before) in (omega (arith, address-le (c .before .before .before .args .p .kind)), omega (arith, address-le (c .before .before .before .args .p .kind)))
+read-address-requires c κs = let e : 16 ≡ length (c .before .before .before .args .p .addr) = slice-aggregate-read-address (c .before) in (
+  omega (arith, address-le (c .before .before .before .args .p .kind)),
+  omega (
+    arith,
+    address-le
+        (c .before .before .before .args .p .kind),
+  ),
+)
 
--- src/address.rt:24:1
 returns : tie.Need-returns
 returns c = store-is _ (c .before .address-size .ensures) (c .read-address .ensures)
 

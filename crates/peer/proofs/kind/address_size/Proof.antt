@@ -1,14 +1,10 @@
 use Rattle.peer.proofs.Sizes.{address-long, address-short}
 use Rattle.peer.proofs.kind.address_size.Statement.{statement}
 use Rattle.peer.proofs.kind.address_size.Tie as tie
-use Rattle.peer.proofs.kind.address_size.Reads as reads
-use Rattle.peer.proofs.kind.address_size.Lts as lts
 
--- src/kind.rt:11:9
 returns : tie.Need-returns
 returns c = address-long _ (c .if1 .taken)
 
--- src/kind.rt:7:1
 returns-2 : tie.Need-returns-2
 returns-2 c = address-short _ (c .if1 .left)
 

@@ -3,28 +3,19 @@ use native.Mathlib.Omega.{arith}
 use borrow.Author.Needs.{needs}
 use Rattle.peer.proofs.kind.peer_size.Statement.{statement}
 use Rattle.peer.proofs.kind.peer_size.Tie as tie
-use Rattle.peer.proofs.kind.peer_size.Reads as reads
-use Rattle.peer.proofs.kind.peer_size.Lts as lts
-use Rattle.peer.proofs.kind.address_size.Reads as address-size-reads
-use Rattle.peer.proofs.kind.as_size.Reads as as-size-reads
 
--- src/kind.rt:30:9
 address-size-requires : tie.Need-address-size-requires
 address-size-requires c κs = search needs
 
--- src/kind.rt:30:5
 add-result : tie.Need-add-result
 add-result c = omega (arith, address-le (c .before .args .kind))
 
--- src/kind.rt:30:30
 as-size-requires : tie.Need-as-size-requires
 as-size-requires c κs = search needs
 
--- src/kind.rt:30:5
 add-result-2 : tie.Need-add-result-2
 add-result-2 c = omega (arith, address-le (c .before .before .args .kind), as-le (c .before .before .args .kind))
 
--- src/kind.rt:27:1
 returns : tie.Need-returns
 returns c = omega (arith, size-is (c .before .before .args .kind))
 

@@ -1,14 +1,10 @@
 use Rattle.peer.proofs.Sizes.{fits-wide, fits-narrow}
 use Rattle.peer.proofs.kind.unfit_as.Statement.{statement}
 use Rattle.peer.proofs.kind.unfit_as.Tie as tie
-use Rattle.peer.proofs.kind.unfit_as.Reads as reads
-use Rattle.peer.proofs.kind.unfit_as.Lts as lts
 
--- src/kind.rt:39:9
 returns : tie.Need-returns
 returns c = fits-wide _ (c .if1 .taken)
 
--- src/kind.rt:34:1
 returns-2 : tie.Need-returns-2
 returns-2 c = fits-narrow _ (c .before .if1 .left)
 

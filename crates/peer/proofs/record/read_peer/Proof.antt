@@ -1,83 +1,76 @@
 use native.Mathlib.Omega.{arith}
-use Rattle.peer.proofs.Sizes.{address-le, as-le, size-is, size-le}
+use Rattle.peer.proofs.Sizes.{address-le, size-is}
 use Rattle.peer.proofs.Records.{read-beyond, read-short, read-whole}
 use mathlib.Core.Path.{_∙_}
 use borrow.Author.Needs.{needs}
 use Rattle.peer.proofs.record.read_peer.Statement.{statement}
 use Rattle.peer.proofs.record.read_peer.Tie as tie
-use Rattle.peer.proofs.record.read_peer.Reads as reads
-use Rattle.peer.proofs.record.read_peer.Lts as lts
-use Rattle.octets.proofs.be32.Reads as be32-reads
-use Rattle.octets.proofs.octet.Reads as octet-reads
-use Rattle.peer.proofs.address.read_address.Reads as read-address-reads
-use Rattle.peer.proofs.kind.address_size.Reads as address-size-reads
-use Rattle.peer.proofs.kind.peer_size.Reads as peer-size-reads
-use Rattle.peer.proofs.record.read_as.Reads as read-as-reads
-use Rattle.peer.proofs.record.refuse.Reads as refuse-reads
 
--- src/record.rt:33:9
 refuse-requires : tie.Need-refuse-requires
 refuse-requires c κs = search needs
 
--- src/record.rt:33:9
 returns : tie.Need-returns
 returns c = c .refuse .ensures ∙ read-beyond _ _ (c .before .if1 .taken)
 
--- src/record.rt:35:9
 octet-requires : tie.Need-octet-requires
 octet-requires c κs = search needs
 
--- src/record.rt:36:9
 peer-size-requires : tie.Need-peer-size-requires
 peer-size-requires c κs = search needs
 
--- src/record.rt:38:9
 refuse-requires-2 : tie.Need-refuse-requires-2
 refuse-requires-2 c κs = search needs
 
--- src/record.rt:38:9
 returns-2 : tie.Need-returns-2
-returns-2 c = c .refuse2 .ensures ∙ read-short _ _ (c .before .before .before .before .if1 .left) (c .before .before .before .octet .ensures) (c .before .before .peer-size .ensures) (c .before .if2 .taken)
+returns-2 c = c .refuse2 .ensures
+    ∙ read-short _ _ (c .before .before .before .before .if1 .left) (c .before .before .before .octet .ensures)
+    (c .before .before .peer-size .ensures) (c .before .if2 .taken)
 
--- src/record.rt:40:9
 address-size-requires : tie.Need-address-size-requires
 address-size-requires c κs = search needs
 
--- src/record.rt:41:35
 add-read-address : tie.Need-add-read-address
 add-read-address c = search needs
 
--- src/record.rt:41:9
 read-address-requires : tie.Need-read-address-requires
-read-address-requires c κs = (omega (arith, address-le (c .before .before .before .octet .result)), omega (arith, size-is (c .before .before .before .octet .result)))
+read-address-requires c κs = (
+  omega (arith, address-le (c .before .before .before .octet .result)),
+  omega (
+    arith,
+    size-is
+        (c .before .before .before .octet .result),
+  ),
+)
 
--- src/record.rt:46:36
 add-be32 : tie.Need-add-be32
 add-be32 c = search needs
 
--- src/record.rt:46:17
 be32-requires : tie.Need-be32-requires
 be32-requires c κs = search needs
 
--- src/record.rt:48:32
 add-read-as : tie.Need-add-read-as
 add-read-as c = search needs
 
--- src/record.rt:48:32
 add-read-as-2 : tie.Need-add-read-as-2
-add-read-as-2 c = omega (arith, address-le (c .before .before .before .before .before .octet .result), size-is (c .before .before .before .before .before .octet .result))
+add-read-as-2 c = omega (
+  arith,
+  address-le (c .before .before .before .before .before .octet .result),
+  size-is
+      (c .before .before .before .before .before .octet .result),
+)
 
--- src/record.rt:48:18
 read-as-requires : tie.Need-read-as-requires
 read-as-requires c κs = search needs
 
--- src/record.rt:50:15
 add-t18 : tie.Need-add-t18
 add-t18 c = search needs
 
--- src/record.rt:28:1
 returns-3 : tie.Need-returns-3
-returns-3 c = read-whole _ _ (c .before .before .before .before .before .before .before .if1 .left) (c .before .before .before .before .before .before .octet .ensures) (c .before .before .before .before .before .peer-size .ensures) (c .before .before .before .before .if2 .left) (c .before .before .before .address-size .ensures) (c .before .before .read-address .ensures) (c .before .be32 .ensures) (c .read-as .ensures)
+returns-3 c =
+    let d = c .before .before .before .before .before .before in
+    read-whole _ _ (d .before .if1 .left) (d .octet .ensures) (c .before .before .before .before .before .peer-size .ensures)
+    (c .before .before .before .before .if2 .left) (c .before .before .before .address-size .ensures)
+    (c .before .before .read-address .ensures) (c .before .be32 .ensures) (c .read-as .ensures)
 
 pub read-peer-spec : {M : Type 1} → statement M
 read-peer-spec =

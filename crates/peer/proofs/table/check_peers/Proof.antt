@@ -1,21 +1,13 @@
 use Rattle.peer.specs.Peer.{peerSize}
 use Rattle.peer.proofs.Tables.{short-head, short-name, short-peer, held, end-none, end-turn, count-at, first-at}
-use Rattle.peer.proofs.Sizes.{size-le}
-use Rattle.peer.specs.Table.{endAt, firstPeer, peerCount}
-use Rattle.octets.specs.Octets.{beAt}
+use Rattle.peer.specs.Table.{endAt, firstPeer}
 use lib.ListN.{length}
-use mathlib.Core.Path.{_≡_, refl, _∙_, ap}
+use mathlib.Core.Path.{_≡_, _∙_, ap}
 use Prim.Native.Nat.{_≤_, _-_}
 use borrow.Author.Needs.{needs}
 use native.Mathlib.Omega.{arith}
 use Rattle.peer.proofs.table.check_peers.Statement.{statement}
 use Rattle.peer.proofs.table.check_peers.Tie as tie
-use Rattle.peer.proofs.table.check_peers.Reads as reads
-use Rattle.peer.proofs.table.check_peers.Lts as lts
-use Rattle.octets.proofs.be16.Reads as be16-reads
-use Rattle.octets.proofs.be32.Reads as be32-reads
-use Rattle.octets.proofs.octet.Reads as octet-reads
-use Rattle.peer.proofs.kind.peer_size.Reads as peer-size-reads
 
 abbrev Inv-loop : tie.InvT-loop
 Inv-loop body n name count at₀ i₀ at i = (i ≤ count) × (at ≡ endAt body (firstPeer body) i) × (at ≤ length body)
@@ -23,81 +15,74 @@ Inv-loop body n name count at₀ i₀ at i = (i ≤ count) × (at ≡ endAt body
 abbrev μ-loop : tie.MeasureT-loop
 μ-loop body n name count at₀ i₀ at i = count - i
 
--- src/table.rt:15:9
 returns : tie.Need-returns Inv-loop μ-loop
 returns c = short-head _ (c .if1 .taken)
 
--- src/table.rt:17:18
 be16-requires : tie.Need-be16-requires Inv-loop μ-loop
 be16-requires c κs = search needs
 
--- src/table.rt:17:18
 cast-length : tie.Need-cast-length Inv-loop μ-loop
 cast-length c = search needs
 
--- src/table.rt:19:9
 returns-2 : tie.Need-returns-2 Inv-loop μ-loop
 returns-2 c = short-name _ (c .before .be16 .ensures) (c .before .before .if1 .left) (c .if2 .taken)
 
--- src/table.rt:21:36
 add-be16 : tie.Need-add-be16 Inv-loop μ-loop
 add-be16 c = search needs
 
--- src/table.rt:21:9
 be16-requires-2 : tie.Need-be16-requires-2 Inv-loop μ-loop
 be16-requires-2 c κs = search needs
 
--- src/table.rt:22:18
 add-at : tie.Need-add-at Inv-loop μ-loop
 add-at c = search needs
 
--- src/table.rt:24:5
 loop-holds : tie.Need-loop-holds Inv-loop μ-loop
 loop-holds c = (omega arith, first-at _ (c .before .before .be16 .ensures) ∙ end-none _ _, omega arith)
 
--- src/table.rt:25:30
 octet-requires : tie.Need-octet-requires Inv-loop μ-loop
 octet-requires c κs = search needs
 
--- src/table.rt:25:13
 peer-size-requires : tie.Need-peer-size-requires Inv-loop μ-loop
 peer-size-requires c κs = search needs
 
--- src/table.rt:26:12
 sub-if3 : tie.Need-sub-if3 Inv-loop μ-loop
 sub-if3 c = omega arith
 
--- src/table.rt:27:13
 returns-3 : tie.Need-returns-3 Inv-loop μ-loop
-returns-3 c = short-peer _ (count-at _ (c .before .before .before .before .before .before .before .be16 .ensures) (c .before .before .before .before .before .be162 .ensures)) (c .before .before .before .loop-test .taken) (c .before .before .before .before .loop .inv .1) (c .before .peer-size .ensures ∙ ap peerSize (c .before .before .octet .ensures)) (c .before .before .before .before .loop .inv .2) (c .if3 .taken)
+returns-3 c =
+    let d = c .before .before .before .before .before .before in
+    short-peer _ (count-at _ (d .before .be16 .ensures) (c .before .before .before .before .before .be162 .ensures))
+    (c .before .before .before .loop-test .taken) (c .before .before .before .before .loop .inv .1) (c .before .peer-size .ensures
+    ∙ ap peerSize (c .before .before .octet .ensures)) (c .before .before .before .before .loop .inv .2) (c .if3 .taken)
 
--- src/table.rt:29:9
 add-at-2 : tie.Need-add-at-2 Inv-loop μ-loop
 add-at-2 c = omega arith
 
--- src/table.rt:30:9
 add-i : tie.Need-add-i Inv-loop μ-loop
 add-i c = omega arith
 
--- src/table.rt:24:5
 loop-less : tie.Need-loop-less Inv-loop μ-loop
 loop-less c = omega arith
 
--- src/table.rt:24:5
 loop-again : tie.Need-loop-again Inv-loop μ-loop
-loop-again c = (omega arith, end-turn _ _ _ (c .before .before .before .before .loop .inv .1) (c .before .peer-size .ensures ∙ ap peerSize (c .before .before .octet .ensures)), omega arith)
+loop-again c = (
+  omega arith,
+  end-turn _ _ _ (c .before .before .before .before .loop .inv .1) (c .before .peer-size .ensures
+      ∙ ap peerSize (c .before .before .octet .ensures)),
+  omega arith,
+)
 
--- src/table.rt:33:20
 be32-requires : tie.Need-be32-requires Inv-loop μ-loop
 be32-requires c κs = search needs
 
--- src/table.rt:37:16
 add-t11 : tie.Need-add-t11 Inv-loop μ-loop
 add-t11 c = search needs
 
--- src/table.rt:10:1
 returns-4 : tie.Need-returns-4 Inv-loop μ-loop
-returns-4 c = held _ (c .be32 .ensures) (c .before .before .before .before .before .be16 .ensures) (count-at _ (c .before .before .before .before .before .be16 .ensures) (c .before .before .before .be162 .ensures)) (first-at _ (c .before .before .before .before .before .be16 .ensures)) (c .before .before .loop .inv .1) (c .before .before .loop .inv .0) (c .before .loop-test .left) (c .before .before .loop .inv .2)
+returns-4 c = held _ (c .be32 .ensures) (c .before .before .before .before .before .be16 .ensures) (count-at _
+    (c .before .before .before .before .before .be16 .ensures) (c .before .before .before .be162 .ensures)) (first-at _
+    (c .before .before .before .before .before .be16 .ensures)) (c .before .before .loop .inv .1) (c .before .before .loop .inv .0)
+    (c .before .loop-test .left) (c .before .before .loop .inv .2)
 
 pub check-peers-spec : {M : Type 1} → statement M
 check-peers-spec =

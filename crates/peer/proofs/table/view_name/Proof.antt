@@ -2,60 +2,48 @@ use Rattle.peer.proofs.Tables.{name-beyond, name-cut, name-whole}
 use borrow.Author.Needs.{needs}
 use Rattle.peer.proofs.table.view_name.Statement.{statement}
 use Rattle.peer.proofs.table.view_name.Tie as tie
-use Rattle.peer.proofs.table.view_name.Reads as reads
-use Rattle.peer.proofs.table.view_name.Lts as lts
 
--- src/table.rt:48:16
 sub-result : tie.Need-sub-result
 sub-result c = search needs
 
--- src/table.rt:48:16
 part-result-start : tie.Need-part-result-start
 part-result-start c = search needs
 
--- src/table.rt:48:16
 part-result-end : tie.Need-part-result-end
 part-result-end c = search needs
 
--- src/table.rt:48:9
 returns : tie.Need-returns
-returns c = name-beyond (c .before .before .args .body .now) (c .before .before .args .start) (c .before .before .args .length) (c .before .if1 .taken)
+returns c = name-beyond (c .before .before .args .body .now) (c .before .before .args .start) (c .before .before .args .length)
+    (c .before .if1 .taken)
 
--- src/table.rt:51:16
 sub-result-2 : tie.Need-sub-result-2
 sub-result-2 c = search needs
 
--- src/table.rt:51:16
 part-result-start-2 : tie.Need-part-result-start-2
 part-result-start-2 c = search needs
 
--- src/table.rt:51:16
 part-result-end-2 : tie.Need-part-result-end-2
 part-result-end-2 c = search needs
 
--- src/table.rt:51:9
 returns-2 : tie.Need-returns-2
-returns-2 c = name-cut (c .before .before .before .args .body .now) (c .before .before .before .args .start) (c .before .before .before .args .length) (c .before .if2 .taken)
+returns-2 c = name-cut (c .before .before .before .args .body .now) (c .before .before .before .args .start)
+    (c .before .before .before .args .length) (c .before .if2 .taken)
 
--- src/table.rt:53:15
 add-end : tie.Need-add-end
 add-end c = search needs
 
--- src/table.rt:54:5
 sub-result-3 : tie.Need-sub-result-3
 sub-result-3 c = search needs
 
--- src/table.rt:54:5
 part-result-start-3 : tie.Need-part-result-start-3
 part-result-start-3 c = search needs
 
--- src/table.rt:54:5
 part-result-end-3 : tie.Need-part-result-end-3
 part-result-end-3 c = search needs
 
--- src/table.rt:43:1
 returns-3 : tie.Need-returns-3
-returns-3 c = name-whole (c .before .before .before .args .body .now) (c .before .before .before .args .start) (c .before .before .before .args .length)
+returns-3 c = name-whole (c .before .before .before .args .body .now) (c .before .before .before .args .start)
+    (c .before .before .before .args .length)
 
 pub view-name-spec : {M : Type 1} → statement M
 view-name-spec =

@@ -2,13 +2,10 @@ use Prim.Native.Nat.{_≤_, _-_}
 use native.Mathlib.Omega.{arith}
 use borrow.Author.Needs.{needs}
 use Rattle.judge.specs.Record.{judged}
-use mathlib.Core.Path.{_≡_, sym, _∙_, ap, refl}
+use mathlib.Core.Path.{sym, _∙_, ap}
 use Rattle.recover.proofs.Reading.{Goes, goes-first, goes-enough, goes-end, goes-off, goes-cut, goes-on}
 use Rattle.recover.proofs.aligned.try_own_end.Statement.{statement}
 use Rattle.recover.proofs.aligned.try_own_end.Tie as tie
-use Rattle.recover.proofs.aligned.try_own_end.Reads as reads
-use Rattle.recover.proofs.aligned.try_own_end.Lts as lts
-use Rattle.judge.proofs.judge_at.Reads as judge-at-reads
 
 abbrev Inv-loop : tie.InvT-loop
 Inv-loop s at asked n passed₀ p₀ passed p = (passed ≤ asked) × Goes s asked at passed p
@@ -16,51 +13,39 @@ Inv-loop s at asked n passed₀ p₀ passed p = (passed ≤ asked) × Goes s ask
 abbrev μ-loop : tie.MeasureT-loop
 μ-loop s at asked n passed₀ p₀ passed p = asked - passed
 
--- src/aligned.rt:17:5
 loop-holds : tie.Need-loop-holds Inv-loop μ-loop
 loop-holds c = (search needs, goes-first _ _ _)
 
--- src/aligned.rt:19:13
 returns : tie.Need-returns Inv-loop μ-loop
 returns c = goes-end _ _ _ _ _ (c .before .before .loop .inv .1) (c .before .loop-test .taken) (c .if1 .taken)
 
--- src/aligned.rt:21:13
 judge-at-requires : tie.Need-judge-at-requires Inv-loop μ-loop
 judge-at-requires c κs = search needs
 
--- src/aligned.rt:23:32
 enum-told : tie.Need-enum-told Inv-loop μ-loop
 enum-told c = search needs
 
--- src/aligned.rt:23:32
 returns-2 : tie.Need-returns-2 Inv-loop μ-loop
 returns-2 c = goes-cut _ _ _ _ _ (c .before .before .before .before .before .loop .inv .1) (c .before .before .before .before .loop-test .taken) (c .before .before .before .if1 .left) (sym (ap judged (c .enum-told .given .1)) ∙ c .before .before .judge-at .ensures)
 
--- src/aligned.rt:24:52
 enum-told-2 : tie.Need-enum-told-2 Inv-loop μ-loop
 enum-told-2 c = search needs
 
--- src/aligned.rt:24:52
 returns-3 : tie.Need-returns-3 Inv-loop μ-loop
 returns-3 c = goes-off _ _ _ _ _ (c .before .before .before .before .before .loop .inv .1) (c .before .before .before .before .loop-test .taken) (c .before .before .before .if1 .left) (sym (ap judged (c .enum-told2 .given .1)) ∙ c .before .before .judge-at .ensures)
 
--- src/aligned.rt:29:17
 enum-known-v : tie.Need-enum-known-v Inv-loop μ-loop
 enum-known-v c = search needs
 
--- src/aligned.rt:32:17
 add-passed : tie.Need-add-passed Inv-loop μ-loop
 add-passed c = omega arith
 
--- src/aligned.rt:17:5
 loop-less : tie.Need-loop-less Inv-loop μ-loop
 loop-less c = omega arith
 
--- src/aligned.rt:17:5
 loop-again : tie.Need-loop-again Inv-loop μ-loop
 loop-again c = (omega arith, goes-on _ _ _ _ _ (c .before .before .before .before .before .before .loop .inv .1) (c .before .before .before .before .before .loop-test .taken) (c .before .before .before .before .if1 .left) _ (sym (ap judged (c .before .v .given .1)) ∙ c .before .before .before .judge-at .ensures))
 
--- src/aligned.rt:11:1
 returns-4 : tie.Need-returns-4 Inv-loop μ-loop
 returns-4 c = goes-enough _ _ _ _ _ (c .before .loop .inv .1) (c .before .loop .inv .0) (c .loop-test .left)
 

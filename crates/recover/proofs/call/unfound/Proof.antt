@@ -3,44 +3,31 @@ use Rattle.walk.proofs.Turns.{unfound-none, unfound-near, unfound-within, unfou
 use borrow.Author.Needs.{needs}
 use Rattle.recover.proofs.call.unfound.Statement.{statement}
 use Rattle.recover.proofs.call.unfound.Tie as tie
-use Rattle.recover.proofs.call.unfound.Reads as reads
-use Rattle.recover.proofs.call.unfound.Lts as lts
-use Rattle.recover.proofs.call.go_on.Reads as go-on-reads
-use Rattle.recover.proofs.call.stop.Reads as stop-reads
 
--- src/call.rt:113:9
 stop-requires : tie.Need-stop-requires
 stop-requires c κs = search needs
 
--- src/call.rt:113:9
 returns : tie.Need-returns
 returns c = c .stop .ensures ∙ unfound-none _ _ _ _ (c .before .if1 .taken)
 
--- src/call.rt:122:16
 sub-left : tie.Need-sub-left
 sub-left c = search needs
 
--- src/call.rt:124:9
 go-on-requires : tie.Need-go-on-requires
 go-on-requires c κs = search needs
 
--- src/call.rt:124:9
 returns-2 : tie.Need-returns-2
 returns-2 c = c .go-on .ensures ∙ unfound-near _ _ _ (c .before .before .before .before .pre) _ (c .before .before .if1 .left) (c .before .if2 .taken)
 
--- src/call.rt:127:9
 go-on-requires-2 : tie.Need-go-on-requires-2
 go-on-requires-2 c κs = search needs
 
--- src/call.rt:127:9
 returns-3 : tie.Need-returns-3
 returns-3 c = c .go-on2 .ensures ∙ unfound-within _ _ _ (c .before .before .before .before .before .pre) _ (c .before .before .before .if1 .left) (c .before .before .if2 .left) (c .before .if3 .taken)
 
--- src/call.rt:129:5
 stop-requires-2 : tie.Need-stop-requires-2
 stop-requires-2 c κs = search needs
 
--- src/call.rt:102:1
 returns-4 : tie.Need-returns-4
 returns-4 c = c .stop2 .ensures ∙ unfound-full _ _ _ (c .before .before .before .before .before .pre) _ (c .before .before .before .if1 .left) (c .before .before .if2 .left) (c .before .if3 .left)
 

@@ -10,9 +10,6 @@ use mathlib.Core.Path.{_≡_, sym, _∙_, ap, refl}
 use Rattle.walk.proofs.Turns.{Left, scan-starts, scan-over, scan-past, scan-looks, scan-turned, scan-left, row-fails, row-first, row-whole, row-breaks, row-parts, row-goes}
 use Rattle.recover.proofs.scan.scan.Statement.{statement}
 use Rattle.recover.proofs.scan.scan.Tie as tie
-use Rattle.recover.proofs.scan.scan.Reads as reads
-use Rattle.recover.proofs.scan.scan.Lts as lts
-use Rattle.judge.proofs.candidate_at.Reads as candidate-at-reads
 
 abbrev Inv-loop : tie.InvT-loop
 Inv-loop s p window more n d offset family evidence end i₀ at₀ i at =
@@ -27,95 +24,72 @@ Inv-distance s p window more n d₀ d = (d ≤ window) × Left candidateAt s mor
 abbrev μ-distance : tie.MeasureT-distance
 μ-distance s p window more n d₀ d = window - d
 
--- src/scan.rt:19:5
 distance-holds : tie.Need-distance-holds Inv-loop μ-loop Inv-distance μ-distance
 distance-holds c = (search needs, scan-starts candidateAt _ _ _ _)
 
--- src/scan.rt:21:13
 returns : tie.Need-returns Inv-loop μ-loop Inv-distance μ-distance
 returns c = scan-over candidateAt _ _ _ _ _ (c .if1 .taken) (c .before .distance .inv .1)
 
--- src/scan.rt:23:12
 sub-if2 : tie.Need-sub-if2 Inv-loop μ-loop Inv-distance μ-distance
 sub-if2 c = omega arith
 
--- src/scan.rt:24:13
 returns-2 : tie.Need-returns-2 Inv-loop μ-loop Inv-distance μ-distance
 returns-2 c = scan-past candidateAt _ _ _ _ _ (c .before .before .distance .inv .1) (λ q l. sym (candidate-beyond _ q (omega arith)))
 
--- src/scan.rt:26:9
 add-d : tie.Need-add-d Inv-loop μ-loop Inv-distance μ-distance
 add-d c = omega arith
 
--- src/scan.rt:27:22
 add-offset : tie.Need-add-offset Inv-loop μ-loop Inv-distance μ-distance
 add-offset c = omega arith
 
--- src/scan.rt:28:13
 candidate-at-requires : tie.Need-candidate-at-requires Inv-loop μ-loop Inv-distance μ-distance
 candidate-at-requires c κs = search needs
 
--- src/scan.rt:30:13
 enum-known-first : tie.Need-enum-known-first Inv-loop μ-loop Inv-distance μ-distance
 enum-known-first c = search needs
 
--- src/scan.rt:35:13
 enum-told : tie.Need-enum-told Inv-loop μ-loop Inv-distance μ-distance
 enum-told c = search needs
 
--- src/scan.rt:19:5
 distance-less : tie.Need-distance-less Inv-loop μ-loop Inv-distance μ-distance
 distance-less c = omega arith
 
--- src/scan.rt:19:5
 distance-again : tie.Need-distance-again Inv-loop μ-loop Inv-distance μ-distance
 distance-again c = (omega arith, scan-turned candidateAt _ _ _ _ _ _ refl (scan-looks candidateAt _ _ _ _ _ (omega arith) (c .before .before .before .before .before .distance .inv .1)) (row-fails candidateAt _ _ _ (sym (c .before .before .candidate-at .ensures) ∙ ap candidacy (c .enum-told .given .1))))
 
--- src/scan.rt:39:9
 loop-holds : tie.Need-loop-holds Inv-loop μ-loop Inv-distance μ-distance
 loop-holds c = (search needs, rw sub-zero (row-first candidateAt _ _ _ (sym (c .before .before .before .candidate-at .ensures) ∙ ap candidacy (c .before .first .given .1))))
 
--- src/scan.rt:40:17
 candidate-at-requires-2 : tie.Need-candidate-at-requires-2 Inv-loop μ-loop Inv-distance μ-distance
 candidate-at-requires-2 c κs = search needs
 
--- src/scan.rt:42:25
 enum-known-next : tie.Need-enum-known-next Inv-loop μ-loop Inv-distance μ-distance
 enum-known-next c = search needs
 
--- src/scan.rt:47:17
 enum-told-2 : tie.Need-enum-told-2 Inv-loop μ-loop Inv-distance μ-distance
 enum-told-2 c = search needs
 
--- src/scan.rt:19:5
 distance-less-2 : tie.Need-distance-less-2 Inv-loop μ-loop Inv-distance μ-distance
 distance-less-2 c = omega arith
 
--- src/scan.rt:19:5
 distance-again-2 : tie.Need-distance-again-2 Inv-loop μ-loop Inv-distance μ-distance
 distance-again-2 c = (omega arith, scan-turned candidateAt _ _ _ _ _ _ refl (scan-looks candidateAt _ _ _ _ _ (omega arith) (c .before .before .before .before .before .before .before .before .before .before .before .distance .inv .1)) (c .before .before .before .before .loop .inv .1 ∙ row-breaks candidateAt _ _ _ _ _ _ (c .before .before .before .loop-test .taken) (sym (c .before .before .candidate-at2 .ensures) ∙ ap candidacy (c .enum-told2 .given .1))))
 
--- src/scan.rt:19:5
 distance-less-3 : tie.Need-distance-less-3 Inv-loop μ-loop Inv-distance μ-distance
 distance-less-3 c = omega arith
 
--- src/scan.rt:19:5
 distance-again-3 : tie.Need-distance-again-3 Inv-loop μ-loop Inv-distance μ-distance
 distance-again-3 c = (omega arith, scan-turned candidateAt _ _ _ _ _ _ refl (scan-looks candidateAt _ _ _ _ _ (omega arith) (c .before .before .before .before .before .before .before .before .before .before .before .before .before .distance .inv .1)) (c .before .before .before .before .before .before .loop .inv .1 ∙ row-parts candidateAt _ _ _ _ _ _ (c .before .before .before .before .before .loop-test .taken) (sym (c .before .before .before .before .candidate-at2 .ensures) ∙ ap candidacy (c .before .before .next .given .1)) (c .if3 .taken)))
 
--- src/scan.rt:53:13
 add-i : tie.Need-add-i Inv-loop μ-loop Inv-distance μ-distance
 add-i c = omega arith
 
--- src/scan.rt:39:9
 loop-less : tie.Need-loop-less Inv-loop μ-loop Inv-distance μ-distance
 loop-less c = omega arith
 
--- src/scan.rt:39:9
 loop-again : tie.Need-loop-again Inv-loop μ-loop Inv-distance μ-distance
 loop-again c = (omega arith, c .before .before .before .before .before .before .loop .inv .1 ∙ row-goes candidateAt _ _ _ _ _ _ (c .before .before .before .before .before .loop-test .taken) (sym (c .before .before .before .before .candidate-at2 .ensures) ∙ ap candidacy (c .before .before .next .given .1)) (c .if3 .left))
 
--- src/scan.rt:55:9
 returns-3 : tie.Need-returns-3 Inv-loop μ-loop Inv-distance μ-distance
 returns-3 c = scan-left candidateAt _ _ _ _ _ _ (scan-looks candidateAt _ _ _ _ _ (omega arith) (c .before .before .before .before .before .before .before .before .distance .inv .1)) (c .before .loop .inv .1 ∙ row-whole candidateAt _ _ _ _ _ _ (c .loop-test .left))
 

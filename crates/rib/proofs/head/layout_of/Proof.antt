@@ -1,45 +1,48 @@
-use native.Mathlib.Omega.{arith}
-use Rattle.rib.proofs.Layouts.{of-neighbours, layout-above}
-use Rattle.rib.specs.Layout.{layoutOf, carried, mostBits, pathSize, pathed, ipv4, ipv6}
+use Prim.Native.Nat.{ℕ}
 use mathlib.Core.Bool.{true, false}
 use mathlib.Core.Path.{_≡_, refl}
-use Prim.Native.Nat.{ℕ}
+use native.Mathlib.Omega.{arith}
+use Rattle.rib.specs.Layout.{layoutOf, carried, mostBits, pathSize, pathed, ipv4, ipv6}
+use Rattle.rib.proofs.Layouts.{of-neighbours, layout-above}
 use Rattle.rib.proofs.head.layout_of.Statement.{statement}
 use Rattle.rib.proofs.head.layout_of.Tie as tie
-use Rattle.rib.proofs.head.layout_of.Reads as reads
-use Rattle.rib.proofs.head.layout_of.Lts as lts
 
--- src/head.rt:13:1
 returns : tie.Need-returns
 unfolding carried mostBits pathSize pathed ipv4 ipv6
-returns c = of-neighbours (λ (t : ℕ). record { carried = true; most = 32; path = 0 } ≡ layoutOf t) 2 (c .before .if1 .left) (c .if2 .taken) refl refl
+returns c =
+    of-neighbours
+    (λ (t : ℕ). record { carried = true; most = 32; path = 0 } ≡ layoutOf t) 2 (c .before .if1 .left) (c .if2 .taken) refl refl
 
--- src/head.rt:13:1
 returns-2 : tie.Need-returns-2
 unfolding carried mostBits pathSize pathed ipv4 ipv6
-returns-2 c = of-neighbours (λ (t : ℕ). record { carried = true; most = 128; path = 0 } ≡ layoutOf t) 4 (c .before .if2 .left) (c .if3 .taken) refl refl
+returns-2 c =
+    of-neighbours
+    (λ (t : ℕ). record { carried = true; most = 128; path = 0 } ≡ layoutOf t) 4 (c .before .if2 .left) (c .if3 .taken) refl refl
 
--- src/head.rt:13:1
 returns-3 : tie.Need-returns-3
 unfolding carried mostBits pathSize pathed ipv4 ipv6
-returns-3 c = of-neighbours (λ (t : ℕ). record { carried = true; most = 32; path = 4 } ≡ layoutOf t) 8 (c .before .if4 .left) (c .if5 .taken) refl refl
+returns-3 c =
+    of-neighbours
+    (λ (t : ℕ). record { carried = true; most = 32; path = 4 } ≡ layoutOf t) 8 (c .before .if4 .left) (c .if5 .taken) refl refl
 
--- src/head.rt:13:1
 returns-4 : tie.Need-returns-4
 unfolding carried mostBits pathSize pathed ipv4 ipv6
-returns-4 c = of-neighbours (λ (t : ℕ). record { carried = true; most = 128; path = 4 } ≡ layoutOf t) 10 (c .before .if5 .left) (c .if6 .taken) refl refl
+returns-4 c =
+    of-neighbours
+    (λ (t : ℕ). record { carried = true; most = 128; path = 4 } ≡ layoutOf t) 10 (c .before .if5 .left) (c .if6 .taken) refl refl
 
--- src/head.rt:13:1
 returns-5 : tie.Need-returns-5
 unfolding carried mostBits pathSize pathed ipv4 ipv6
-returns-5 c = of-neighbours (λ (t : ℕ). record { carried = false; most = 0; path = 0 } ≡ layoutOf t) 0 (omega arith) (c .if1 .taken) refl refl
+returns-5 c =
+    of-neighbours
+    (λ (t : ℕ). record { carried = false; most = 0; path = 0 } ≡ layoutOf t) 0 (omega arith) (c .if1 .taken) refl refl
 
--- src/head.rt:13:1
 returns-6 : tie.Need-returns-6
 unfolding carried mostBits pathSize pathed ipv4 ipv6
-returns-6 c = of-neighbours (λ (t : ℕ). record { carried = false; most = 0; path = 0 } ≡ layoutOf t) 6 (c .before .if3 .left) (c .if4 .taken) refl refl
+returns-6 c =
+    of-neighbours
+    (λ (t : ℕ). record { carried = false; most = 0; path = 0 } ≡ layoutOf t) 6 (c .before .if3 .left) (c .if4 .taken) refl refl
 
--- src/head.rt:13:1
 returns-7 : tie.Need-returns-7
 returns-7 c = layout-above _ (c .if6 .left)
 

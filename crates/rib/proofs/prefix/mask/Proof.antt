@@ -1,45 +1,33 @@
 use mathlib.Core.Path.{refl}
-use Rattle.rib.proofs.Prefixes.{masked-after, masked-within, masked-shift}
-use native.Mathlib.Omega.{arith}
 use borrow.Author.Needs.{needs}
+use Rattle.rib.proofs.Prefixes.{masked-after, masked-within, masked-shift}
 use Rattle.rib.proofs.prefix.mask.Statement.{statement}
 use Rattle.rib.proofs.prefix.mask.Tie as tie
-use Rattle.rib.proofs.prefix.mask.Reads as reads
-use Rattle.rib.proofs.prefix.mask.Lts as lts
 
--- src/prefix.rt:27:18
 mul-before : tie.Need-mul-before
 mul-before c = search needs
 
--- src/prefix.rt:30:9
 returns : tie.Need-returns
 returns c = masked-after _ _ _ (c .before .fits .v .fits) (c .if1 .taken)
 
--- src/prefix.rt:32:13
 sub-n : tie.Need-sub-n
 sub-n c = search needs
 
--- src/prefix.rt:34:9
 returns-2 : tie.Need-returns-2
 returns-2 c = masked-within _ _ _ (c .if2 .taken)
 
--- src/prefix.rt:36:14
 sub-k : tie.Need-sub-k
 sub-k c = search needs
 
--- src/prefix.rt:36:13
 cast-k : tie.Need-cast-k
 cast-k c = search needs
 
--- src/prefix.rt:37:6
 shr-result : tie.Need-shr-result
 shr-result c = search needs
 
--- src/prefix.rt:37:5
 shl-result : tie.Need-shl-result
 shl-result c = search needs
 
--- src/prefix.rt:23:1
 returns-3 : tie.Need-returns-3
 returns-3 c = masked-shift _ _ _ (c .before .before .fits .v .fits) refl
 

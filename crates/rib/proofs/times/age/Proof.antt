@@ -1,23 +1,17 @@
-use Rattle.rib.proofs.Difference.{fits, exact}
 use borrow.Author.Needs.{needs}
+use Rattle.rib.proofs.Difference.{fits, exact}
 use Rattle.rib.proofs.times.age.Statement.{statement}
 use Rattle.rib.proofs.times.age.Tie as tie
-use Rattle.rib.proofs.times.age.Reads as reads
-use Rattle.rib.proofs.times.age.Lts as lts
 
--- src/times.rt:9:6
 cast-result : tie.Need-cast-result
 cast-result c = search needs
 
--- src/times.rt:9:27
 cast-result-2 : tie.Need-cast-result-2
 cast-result-2 c = search needs
 
--- src/times.rt:9:5
 sub-result : tie.Need-sub-result
 sub-result c = fits _ _ (c .fits .timestamp .fits) (c .fits .originated .fits)
 
--- src/times.rt:6:1
 returns : tie.Need-returns
 returns c = exact _ _ (c .fits .timestamp .fits) (c .fits .originated .fits)
 

@@ -1,0 +1,44 @@
+// Slots read: one of them, and a lookup by address.
+ghost use mathlib.Core.Path.{_≡_};
+ghost use Rattle.peers.specs.Slots.{peerOf, slot};
+ghost use Rattle.peers.specs.Find.{findPeer, finding, lookUp};
+use crate::FindAnswer;
+use crate::PeerAnswer;
+use crate::step::begin_search;
+use crate::step::held;
+use crate::step::in_use;
+use crate::step::judge;
+use crate::step::not_held;
+use peer::Peer;
+
+// The peer of an id, where count slots are in use.
+pub fn peer_at(slots: &[Peer], count: usize, id: usize) -> PeerAnswer
+    ensures answer { λ r. ⌜ slot r ≡ peerOf (now (slots .entry)) count id ⌝ }
+{
+    let used = in_use(slots.len(), count);
+    if id < used {
+        return held(slots[id]);
+    }
+    not_held()
+}
+
+// The highest id that holds the key's address.
+pub(crate) fn look_up(slots: &[Peer], count: usize, key: Peer) -> FindAnswer
+    ensures { λ r. ⌜ finding r ≡ lookUp (now (slots .entry)) count key ⌝ }
+{
+    let search = begin_search(slots.len(), count);
+    let mut best = search.best;
+    let mut i: usize = 0;
+    while i < search.count {
+        best = judge(best, i, slots[i], key);
+        i += 1;
+    }
+    best
+}
+
+// The highest id that holds an address, given by its family and its octets.
+pub fn find_peer(slots: &[Peer], count: usize, v6: bool, addr: [u8; 16]) -> FindAnswer
+    ensures answer { λ r. ⌜ finding r ≡ findPeer (now (slots .entry)) count v6 addr ⌝ }
+{
+    look_up(slots, count, peer::address_key(v6, addr))
+}

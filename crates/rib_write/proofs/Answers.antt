@@ -1,0 +1,204 @@
+-- What the calls answer, one law for each way through them.
+use Prim.Native.Nat.{ℕ, _+_, _-_, _/_, _<_, _≤_}
+use mathlib.Core.Path.{_≡_, refl, sym, _∙_, ap}
+use mathlib.Core.Bool.{Bool, true, false, not, _&&_, _||_, true≢false}
+use mathlib.Core.List.{List}
+use native.Mathlib.Omega.{arith}
+use lib.ListN.{length, take, getD}
+use lib.Dec.{leb, ltb, eqb}
+use borrow.Author.Tests.{leb-true, leb-false, lt-ltb, le-ltb, le-leb, lt-leb, eq-eqb, ne-eqb, eqb-false, ltb-true, ltb-false}
+use Rattle.answer.specs.Refusal.{numberOf}
+use Rattle.answer.specs.Writing.{refuse, atFront}
+use Rattle.answer.specs.declared.Refusal.{Refusal}
+use Rattle.octets.specs.Octets.{beAt, bytesOf, patch}
+use Rattle.octets.proofs.Stores.{patch-front}
+use Rattle.rib.specs.Layout.{carried, mostBits, pathSize, prefixSize}
+use Rattle.rib.specs.Head.{bitsOf, countAt, declared}
+use Rattle.rib.specs.Entry.{cursorValues, afterOf}
+use Rattle.rib.specs.declared.Cursor.{Cursor}
+use Rattle.rib.specs.declared.CursorAnswer.{CursorAnswer}
+use Rattle.rib.specs.declared.CursorAnswer.the-variants as cursor-answer
+use Rattle.answer.proofs.Refusals.{number-refusal}
+use Rattle.rib_write.specs.Layout.{headOctets, entryOctets}
+use Rattle.rib_write.specs.Begin.{beginRib}
+use Rattle.rib_write.specs.Add.{unopened, openValues, openOf, unfit, added, addEntry, unpushed, pushEntry}
+use Rattle.rib_write.specs.declared.NewEntry.{NewEntry}
+use Rattle.rib_write.specs.declared.Builder.{Builder}
+use Rattle.rib_write.specs.declared.BuilderAnswer.{BuilderAnswer}
+use Rattle.rib_write.specs.declared.BuilderAnswer.the-variants as builder-answer
+use Rattle.rib_write.proofs.Sizes.{length-head, length-entry}
+
+-- beginning a body
+module _ (s : List ℕ) (t sequence bits : ℕ) (prefix : List ℕ) where
+  pub begin-other : carried t ≡ false → refuse 6 s ≡ beginRib s t sequence bits prefix
+  unfolding beginRib
+  begin-other f = rw f
+
+  module _ (f : carried t ≡ true) {most : ℕ} (m : most ≡ mostBits t) where
+    pub begin-large : most < bits → refuse 10 s ≡ beginRib s t sequence bits prefix
+    unfolding beginRib
+    begin-large h = rw (f, lt-ltb (mostBits t) bits (omega arith))
+
+    module _ (h : bits ≤ most) where
+      front : atFront s (headOctets sequence bits prefix 0) ≡ beginRib s t sequence bits prefix
+      unfolding beginRib
+      front = rw (f, le-ltb (mostBits t) bits (omega arith))
+
+      pub begin-full : length s < 7 + (bits + 7) / 8 → refuse 9 s ≡ beginRib s t sequence bits prefix
+      unfolding atFront prefixSize
+      begin-full l =
+          let k : length (headOctets sequence bits prefix 0) ≡ 7 + (bits + 7) / 8 = length-head sequence bits prefix 0 in
+          rw (lt-leb (length (headOctets sequence bits prefix 0)) (length s) (omega arith)) at front
+
+      pub begin-done : 7 + (bits + 7) / 8 ≤ length s → {u : List ℕ} → u ≡ patch s 0 (headOctets sequence bits prefix 0)
+          → record { number = 0; octets = 7 + (bits + 7) / 8; output = u } ≡ beginRib s t sequence bits prefix
+      unfolding atFront prefixSize
+      begin-done l e =
+          let k : length (headOctets sequence bits prefix 0) ≡ 7 + (bits + 7) / 8 = length-head sequence bits prefix 0 in
+          rw (
+            e,
+            patch-front s (headOctets sequence bits prefix 0) (omega arith),
+            ← k,
+          )
+          (rw (le-leb (length (headOctets sequence bits prefix 0)) (length s) (omega arith)) at front)
+
+-- a builder at the end of a whole body
+module _ (s : List ℕ) (t : ℕ) (a : CursorAnswer) (said : cursorValues a ≡ afterOf s t) where
+  pub open-unmet : {r : Refusal} → a ≡ cursor-answer.Refused r → unopened (numberOf r) ≡ openOf s t
+  unfolding openOf
+  open-unmet {r} v = rw (← said, v, number-refusal r)
+
+  module _ {c : Cursor} (v : a ≡ cursor-answer.At c) where
+    pub open-left : (c .left ≡ 0 → ⊥) → unopened 7 ≡ openOf s t
+    unfolding openOf
+    open-left z = rw (← said, v, ne-eqb (c .left) 0 z)
+
+    module _ (z : c .left ≡ 0) where
+      pub open-over : (c .at ≡ length s → ⊥) → unopened 7 ≡ openOf s t
+      unfolding openOf
+      open-over n = rw (← said, v, eq-eqb (c .left) 0 z, ne-eqb (c .at) (length s) n)
+
+      pub open-met : c .at ≡ length s → {b n : ℕ} → b ≡ getD s 4 0 → n ≡ beAt s (5 + (b + 7) / 8) 2
+          → record { number = 0; len = length s; at = 5 + (b + 7) / 8; count = n } ≡ openOf s t
+      unfolding openOf countAt declared bitsOf prefixSize
+      open-met n e q = rw (← said, v, eq-eqb (c .left) 0 z, eq-eqb (c .at) (length s) n, q, e)
+
+-- values that fit their fields and values that do not
+module _ (count t path m : ℕ) where
+  pub unfit-count : count ≡ 65535 → true ≡ unfit count t path m
+  unfolding unfit
+  unfit-count e = rw (eq-eqb count 65535 e)
+
+  module _ (c : count ≡ 65535 → ⊥) where
+    pub unfit-length : 65535 < m → true ≡ unfit count t path m
+    unfolding unfit
+    unfit-length h = rw (ne-eqb count 65535 c, lt-ltb 65535 m h)
+
+    module _ (h : m ≤ 65535) {n : ℕ} (e : n ≡ pathSize t) where
+      pub unfit-never : (n ≡ 0 → ⊥) → false ≡ unfit count t path m
+      unfolding unfit
+      unfit-never z = rw (ne-eqb count 65535 c, le-ltb 65535 m h, ← e, ne-eqb n 0 z)
+
+      pub unfit-path : n ≡ 0 → not (eqb path 0) ≡ unfit count t path m
+      unfolding unfit
+      unfit-path z = rw (ne-eqb count 65535 c, le-ltb 65535 m h, ← e, eq-eqb n 0 z)
+
+-- what the test of the values shows
+pub fit-count : (count t path m : ℕ) {u : Bool} → u ≡ unfit count t path m → u ≡ false → (count ≡ 65535 → ⊥) × (m ≤ 65535)
+unfolding unfit
+fit-count count t path m g f = by-tests (eqb count 65535) (ltb 65535 m) refl refl (sym g ∙ f)
+  where
+    by-tests : (a b : Bool) → eqb count 65535 ≡ a → ltb 65535 m ≡ b → a || b || (eqb (pathSize t) 0 && not (eqb path 0)) ≡ false
+        → (count ≡ 65535 → ⊥) × (m ≤ 65535)
+    by-tests true b e g f = absurd (true≢false f)
+    by-tests false true e g f = absurd (true≢false f)
+    by-tests false false e g f = (eqb-false count 65535 e, ltb-false 65535 m g)
+
+-- where there is room for one entry more, the count can be raised
+pub count-room : {count : ℕ} → count < 65536 → (count ≡ 65535 → ⊥) → count + 1 < 65536
+count-room {count} l n = by-test (ltb count 65535) refl
+  where
+    by-test : (b : Bool) → ltb count 65535 ≡ b → count + 1 < 65536
+    by-test true e = let h = ltb-true count 65535 e in omega arith
+    by-test false e = let h = ltb-false count 65535 e in absurd (n (omega arith))
+
+-- a count within so many octets
+pub count-short : (len at : ℕ) → len < 2 → false ≡ leb (at + 2) len
+count-short len at h = sym (lt-leb (at + 2) len (omega arith))
+
+pub count-rest : (len at : ℕ) → 2 ≤ len → leb at (len - 2) ≡ leb (at + 2) len
+count-rest len at h = by-test (leb at (len - 2)) refl
+  where
+    by-test : (b : Bool) → leb at (len - 2) ≡ b → b ≡ leb (at + 2) len
+    by-test true e = let l = leb-true at (len - 2) e in sym (le-leb (at + 2) len (omega arith))
+    by-test false e = let l = leb-false at (len - 2) e in sym (lt-leb (at + 2) len (omega arith))
+
+-- pushing an entry
+module _ (s : List ℕ) (t : ℕ) (b : Builder) (e : NewEntry) (l : List ℕ) where
+  -- a builder beyond the output, and a count beyond its body
+  pub push-beyond : length s < b .len → unpushed 8 s ≡ pushEntry s t b e l
+  unfolding pushEntry
+  push-beyond h = rw (lt-ltb (length s) (b .len) h)
+
+  module _ (h : b .len ≤ length s) {w : Bool} (i : w ≡ leb (b .at + 2) (b .len)) where
+    pub push-uncounted : not w ≡ true → unpushed 8 s ≡ pushEntry s t b e l
+    unfolding pushEntry
+    push-uncounted f = rw (le-ltb (length s) (b .len) h, ← i, f)
+
+    module _ (f : not w ≡ false) where
+      -- another subtype
+      pub push-other : carried t ≡ false → unpushed 6 s ≡ pushEntry s t b e l
+      unfolding pushEntry
+      push-other c = rw (le-ltb (length s) (b .len) h, ← i, f, c)
+
+      module _ (c : carried t ≡ true) {u : Bool} (g : u ≡ unfit (b .count) t (e .path) (length l)) where
+        pub push-unfit : u ≡ true → unpushed 10 s ≡ pushEntry s t b e l
+        unfolding pushEntry
+        push-unfit k = rw (le-ltb (length s) (b .len) h, ← i, f, c, ← g, k)
+
+        module _ (k : u ≡ false) {n : ℕ} (m : n ≡ pathSize t) where
+          size : length (entryOctets (pathSize t) e l) ≡ 8 + n + length l
+          size = length-entry (pathSize t) e l ∙ ap (λ (k : ℕ). 8 + k + length l) (sym m)
+
+          pub push-full : length s - b .len < 8 + n + length l → unpushed 9 s ≡ pushEntry s t b e l
+          unfolding pushEntry
+          push-full r =
+              rw (
+                le-ltb (length s) (b .len) h,
+                ← i,
+                f,
+                c,
+                ← g,
+                k,
+                lt-ltb (length s - b .len) (length (entryOctets (pathSize t) e l)) (omega (arith, size)),
+              )
+
+          pub push-done : 8 + n + length l ≤ length s - b .len → {x y : List ℕ}
+              → x ≡ patch s (b .len) (entryOctets (pathSize t) e l) → y ≡ patch x (b .at) (bytesOf 2 (b .count + 1))
+              → record { number = 0; len = b .len + (8 + n + length l); at = b .at; count = b .count + 1; output = y } ≡ pushEntry s t b e l
+          unfolding pushEntry added
+          push-done r p q =
+              rw (
+                le-ltb (length s) (b .len) h,
+                ← i,
+                f,
+                c,
+                ← g,
+                k,
+                le-ltb (length s - b .len) (length (entryOctets (pathSize t) e l)) (omega (arith, size)),
+                q,
+                p,
+                ← size,
+              )
+
+-- adding an entry
+module _ (s : List ℕ) (len t : ℕ) (e : NewEntry) (l : List ℕ) where
+  -- a length beyond the output
+  pub add-beyond : length s < len → refuse 8 s ≡ addEntry s len t e l
+  unfolding addEntry
+  add-beyond h = rw (lt-ltb (length s) len h)
+
+  module _ (h : len ≤ length s) (a : BuilderAnswer) (said : openValues a ≡ openOf (take len s) t) where
+    pub add-unmet : {r : Refusal} → a ≡ builder-answer.Refused r → refuse (numberOf r) s ≡ addEntry s len t e l
+    unfolding addEntry
+    add-unmet {r} v = rw (le-ltb (length s) len h, ← said, v, number-refusal r)

@@ -1,0 +1,30 @@
+use borrow.Author.Needs.{needs}
+use Rattle.rib.proofs.Layouts.{path-size}
+use Rattle.rib.proofs.Heads.{path-of}
+use Rattle.rib_write.proofs.Written.{path-unwritten, path-written}
+use Rattle.rib_write.proofs.add.put_path.Statement.{statement}
+use Rattle.rib_write.proofs.add.put_path.Tie as tie
+
+layout-of-requires : tie.Need-layout-of-requires
+layout-of-requires c κs = search needs
+
+returns : tie.Need-returns
+returns c = path-unwritten _ _ _ _ (path-of _ (c .before .before .layout-of .ensures)) (c .if1 .taken)
+
+put-be32-requires : tie.Need-put-be32-requires
+put-be32-requires c κs = search needs
+
+same-length : tie.Need-same-length
+same-length c = search needs
+
+returns-2 : tie.Need-returns-2
+returns-2 c =
+    let at-put-be32 = c .before .before in
+    let at-if1 = at-put-be32 .before .before in
+    let at-layout-of = at-if1 .before .before in
+    path-written _ _ _ _
+    (at-put-be32 .put-be32 .ensures) (path-size _ (path-of _ (at-layout-of .layout-of .ensures)) (at-if1 .if1 .left))
+
+pub put-path-spec : {M : Type 1} → statement M
+put-path-spec =
+    tie.close (tie.spec layout-of-requires returns put-be32-requires same-length returns-2)

@@ -1,0 +1,153 @@
+// One more entry, straight after the last one of a body.
+ghost use mathlib.Core.Path.{_≡_};
+ghost use Prim.Native.Nat.{_+_, _≤_};
+ghost use lib.ListN.{length};
+ghost use lib.Dec.{leb};
+ghost use Rattle.answer.specs.Writing.{wrote};
+ghost use Rattle.octets.specs.Octets.{patch, bytesOf};
+ghost use Rattle.rib.specs.Layout.{pathSize};
+ghost use Rattle.rib_write.specs.Layout.{entryOctets};
+ghost use Rattle.rib_write.specs.Add.{openValues, openOf, unfit, pushed, pushEntry, addEntry};
+use crate::Builder;
+use crate::BuilderAnswer;
+use crate::NewEntry;
+use answer::Refusal;
+use answer::Written;
+use rib::CursorAnswer;
+
+// One more entry in a body that fills the first len octets of the lent output.
+pub fn add_entry(
+    out: &mut [u8],
+    len: usize,
+    subtype: u16,
+    e: NewEntry,
+    attributes: &[u8],
+) -> Written
+    ensures answer { λ r. ⌜ wrote r (now (out .exit)) ≡ addEntry (now (out .entry)) len subtype e (now (attributes .entry)) ⌝ }
+{
+    if out.len() < len {
+        return Written::Refused(Refusal::Beyond);
+    }
+    match open_rib(&out[..len], subtype) {
+        BuilderAnswer::Refused(r) => Written::Refused(r),
+        BuilderAnswer::Open(b) => match push_entry(out, subtype, b, e, attributes) {
+            BuilderAnswer::Refused(r) => Written::Refused(r),
+            BuilderAnswer::Open(next) => Written::Octets(next.len),
+        },
+    }
+}
+
+// A builder at the end of a body that has every declared entry and nothing after them.
+pub fn open_rib(body: &[u8], subtype: u16) -> BuilderAnswer
+    ensures answer { λ r. ⌜ openValues r ≡ openOf (now (body .entry)) subtype ⌝ }
+{
+    match rib::after_entries(body, subtype) {
+        CursorAnswer::Refused(r) => BuilderAnswer::Refused(r),
+        CursorAnswer::At(c) => {
+            if c.left != 0 {
+                return BuilderAnswer::Refused(Refusal::BodyNotMet);
+            }
+            let len = body.len();
+            if c.at != len {
+                return BuilderAnswer::Refused(Refusal::BodyNotMet);
+            }
+            let at = 5 + (octets::octet(body, 4) as usize + 7) / 8;
+            BuilderAnswer::Open(Builder {
+                len,
+                at,
+                count: octets::be16(body, at),
+            })
+        }
+    }
+}
+
+// One more entry where a builder stands. The entries before it are not looked at.
+pub fn push_entry(
+    out: &mut [u8],
+    subtype: u16,
+    b: Builder,
+    e: NewEntry,
+    attributes: &[u8],
+) -> BuilderAnswer
+    ensures answer { λ r. ⌜ pushed r (now (out .exit)) ≡ pushEntry (now (out .entry)) subtype b e (now (attributes .entry)) ⌝ }
+{
+    let n = out.len();
+    let m = attributes.len();
+    let len = b.len;
+    if n < len {
+        return BuilderAnswer::Refused(Refusal::Beyond);
+    }
+    if !holds_count(len, b.at) {
+        return BuilderAnswer::Refused(Refusal::Beyond);
+    }
+    let l = rib::layout_of(subtype);
+    if !l.carried {
+        return BuilderAnswer::Refused(Refusal::OtherSubtype);
+    }
+    if is_unfit(b.count, subtype, e.path, m) {
+        return BuilderAnswer::Refused(Refusal::TooLarge);
+    }
+    let size = 8 + l.path + m;
+    if n - len < size {
+        return BuilderAnswer::Refused(Refusal::NoRoom);
+    }
+    put_entry(&mut out[len..], subtype, e, attributes);
+    octets::put_be16(out, b.at, b.count + 1);
+    BuilderAnswer::Open(Builder {
+        len: len + size,
+        at: b.at,
+        count: b.count + 1,
+    })
+}
+
+// Whether a count that stands at an offset lies within so many octets.
+fn holds_count(len: usize, at: usize) -> bool
+    ensures { λ r. ⌜ r ≡ leb (at + 2) len ⌝ }
+{
+    if len < 2 {
+        return false;
+    }
+    at <= len - 2
+}
+
+// Whether a value does not fit its field: one entry more, the path number, the attributes' length.
+fn is_unfit(count: u16, subtype: u16, path: u32, m: usize) -> bool
+    ensures { λ r. ⌜ r ≡ unfit count subtype path m ⌝ }
+{
+    if count == 65535 {
+        return true;
+    }
+    if 65535 < m {
+        return true;
+    }
+    let l = rib::layout_of(subtype);
+    if l.path != 0 {
+        return false;
+    }
+    path != 0
+}
+
+// The entry at the front of the part that starts at the body's end.
+fn put_entry(part: &mut [u8], subtype: u16, e: NewEntry, attributes: &[u8])
+    requires { ⌜ length (now attributes) ≤ 65535 ⌝ }
+    ensures { λ _. ⌜ now (part .exit) ≡ patch (now (part .entry)) 0 (entryOctets (pathSize subtype) e (now (attributes .entry))) ⌝ }
+{
+    let l = rib::layout_of(subtype);
+    let size = l.path;
+    octets::put_be16(part, 0, e.peer);
+    octets::put_be32(part, 2, e.originated);
+    put_path(part, subtype, 6, e.path);
+    octets::put_be16(part, 6 + size, attributes.len() as u16);
+    octets::put_octets(part, 8 + size, attributes);
+}
+
+// The path number, where the subtype has one.
+fn put_path(part: &mut [u8], subtype: u16, at: usize, v: u32)
+    ensures { λ _. ⌜ now (part .exit) ≡ patch (now (part .entry)) at (bytesOf (pathSize subtype) v) ⌝ }
+{
+    let l = rib::layout_of(subtype);
+    if l.path == 0 {
+        return;
+    }
+    octets::put_be32(part, at, v);
+}

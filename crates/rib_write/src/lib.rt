@@ -1,0 +1,28 @@
+// RIB bodies, written into lent output: begun with no entry, and given one entry at a time (RFC 6396, 4.3.2; RFC 8050, 4).
+mod add;
+mod begin;
+
+pub use add::add_entry;
+pub use add::open_rib;
+pub use add::push_entry;
+use answer::Refusal;
+pub use begin::begin_rib;
+
+pub struct NewEntry {
+    pub peer: u16,
+    pub originated: u32,
+    // 0 where the subtype has none.
+    pub path: u32,
+}
+
+// A body that can be given entries: where it ends, where its entry count stands, and that count.
+pub struct Builder {
+    pub len: usize,
+    pub at: usize,
+    pub count: u16,
+}
+
+pub enum BuilderAnswer {
+    Open(Builder),
+    Refused(Refusal),
+}
