@@ -81,13 +81,21 @@ pub struct Differ {
 }
 
 impl Default for Differ {
-    /// The crate beside the reading. A further subject takes its place here; the proved library is to have no known
-    /// difference, and to be silent about nothing that it exports.
+    /// The crate beside the reading, and the proved library where it is linked (`build.rs`): that one is to have no
+    /// known difference, and to be silent about nothing that it exports.
     fn default() -> Self {
         let of_crate =
             Compared { subject: Box::new(Oracle), difference: known::difference, may_be_silent: known::may_be_silent };
+        #[allow(unused_mut)]
+        let mut subjects = vec![of_crate];
+        #[cfg(proved)]
+        subjects.push(Compared {
+            subject: Box::new(crate::proved::Proved),
+            difference: crate::proved::difference,
+            may_be_silent: crate::proved::may_be_silent,
+        });
         Differ {
-            subjects: vec![of_crate],
+            subjects,
             met: Met::default(),
             counts: BTreeMap::new(),
             known: BTreeMap::new(),

@@ -8,6 +8,8 @@ pub mod damage;
 pub mod known;
 pub mod make;
 pub mod oracle;
+#[cfg(proved)]
+pub mod proved;
 pub mod question;
 pub mod random;
 pub mod reading;

@@ -7,15 +7,15 @@ use native.Mathlib.Nat.{add-assoc, add-zero, zero-add}
 use native.Mathlib.Omega.{arith}
 use borrow.Author.Tests.{ltb-false, le-ltb}
 use lib.ListN.{length, getD, take, drop, replicate, length-append, length-drop, length-replicate, List·getD-append}
-use lib.Seq.{take-suc, take-add, take-all, take-at, drop-at, drop-drop, drop-cons, getD-drop}
+use lib.Seq.{take-suc, take-all, take-at, drop-at, drop-cons, getD-drop}
 use lib.Dec.{ltb}
 use Rattle.octets.specs.Octets.{beAt, bytesOf, part, Octets}
-use Rattle.octets.proofs.Numbers.{be-drop, be-of-bytes, bytes-of-be, length-bytes}
+use Rattle.octets.proofs.Numbers.{be-drop, be-lt, be-of-bytes, bytes-of-be, length-bytes}
 use Rattle.peer.specs.Peer.{wide, addressSize, asSize, peerSize, octetsAt, addressAt, peerAt, stored, unfit, peerOctets}
 use Rattle.peer.specs.declared.Peer.{Peer}
 use Rattle.peer.proofs.Sizes.{address-le, size-is}
 use Rattle.peer.proofs.Addresses.{length-octets}
-use Rattle.octets.proofs.Numbers.{be-lt}
+use Rattle.octets.proofs.Parts.{part-join}
 
 -- ---- octets of a part
 octets-drop : (s : List ℕ) (p at n : ℕ) → octetsAt (drop p s) at n ≡ octetsAt s (p + at) n
@@ -38,10 +38,7 @@ octets-between p x q n m e f =
     let d : drop n (p ++ x ++ q) ≡ x ++ q = ap (drop n) (append-assoc p x q) ∙ drop-at p (x ++ q) n e in
     octets-part (p ++ x ++ q) n m l ∙ ap (take m) d ∙ take-at x q m f
 
--- the part of n octets and the m after them
-pub part-join : (s : List ℕ) (at n m : ℕ) → part s at n ++ part s (at + n) m ≡ part s at (n + m)
-part-join s at n m = ap (λ (l : List ℕ). part s at n ++ take m l) (sym (drop-drop n at s)) ∙ sym (take-add n m (drop at s))
-
+-- a part of one octet
 part-one : (s : List ℕ) (at : ℕ) → at < length s → getD s at 0 ∷ [] ≡ part s at 1
 part-one s at h = rw (drop-cons s at 0 h)
 
