@@ -59,7 +59,7 @@ listing s =
     (fields 76 (65536 ∷ []))
     (fields 72 (length s ∷ 1048576 ∷ 3 ∷ []) ++ linesOf (walked s))
 
--- the most octets that a listing has: one line of 3 numbers, and a line of at most 5 numbers for each of at most 10,924 answers
+-- no listing has more octets: one line of 3 numbers, and a line of at most 5 numbers for each of at most 10,924 answers
 abbrev pub room : ℕ
 room = 1168933
 
