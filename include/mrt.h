@@ -1,0 +1,148 @@
+/*
+ * MRT dumps (RFC 6396, RFC 8050): headers, records, peer tables, RIB bodies and the recovering walk.
+ *
+ * Each slice is passed as its pointer and its length in elements. A length of 0 may come with any pointer, NULL too.
+ * Memory that a call writes must overlap no other memory that it is lent, and is aligned for its type. No call keeps a
+ * pointer, allocates, or fails otherwise than by its result.
+ *
+ * A call that returns uint32_t returns 0 where it has served, or a refusal's number:
+ *
+ *    1  the header runs past the stream          7  the body check is not met
+ *    2  the type is unknown                      8  an index, offset, count or length beyond what exists
+ *    3  type 17 with a wire length under 4       9  too few places or too little output room
+ *    4  the body runs past the stream           10  a value does not fit its field
+ *    5  the type is not carried                 11  the scan's window is exhausted
+ *    6  the subtype is not carried
+ *
+ * Values are left at the front of `out`, in the order that is given here; places after them keep what they had. A refusal
+ * leaves all lent memory as it was. Too few places are 9, after every other refusal of the call. The one exception is
+ * mrt_next, which says so.
+ */
+#ifndef MRT_H
+#define MRT_H
+
+#include <stddef.h>
+#include <stdint.h>
+
+#ifdef __cplusplus
+extern "C" {
+#endif
+
+/* How many values each call leaves. */
+#define MRT_HEADER_VALUES 6
+#define MRT_FRAME_VALUES 8
+#define MRT_JUDGE_VALUES 9
+#define MRT_WALK_VALUES 2
+#define MRT_NEXT_VALUES 10
+#define MRT_PEERS_VALUES 6
+#define MRT_RIB_VALUES 5
+#define MRT_PREFIX_OCTETS 16
+#define MRT_ENTRY_VALUES 5
+#define MRT_FIRST_VALUES 2
+#define MRT_STEP_VALUES 8
+#define MRT_CANDIDATE_VALUES 4
+
+/* The kinds of a walk's answer. */
+#define MRT_RECORD 1
+#define MRT_GAP 2
+#define MRT_END 3
+#define MRT_WINDOW 4
+
+/*
+ * The header at the offset `at` of the stream `s`.
+ * Values: timestamp, type, subtype, wire length, stored length, microseconds. Refusals: 8, 1, 2, 3, 1, 9.
+ */
+uint32_t mrt_read_header(const uint8_t *s, size_t s_len, size_t at, uint64_t *out, size_t out_len);
+
+/*
+ * The record at an offset, framed.
+ * Values: those of the header, where the body starts, where it ends. Refusals: 8, 1, 2, 3, 1, 4, 9.
+ */
+uint32_t mrt_frame(const uint8_t *s, size_t s_len, size_t at, uint64_t *out, size_t out_len);
+
+/*
+ * The record at an offset, framed and put to its body check.
+ * Values: where the record starts, then those of the frame. Refusals: 8, 1, 2, 3, 1, 4, 5, 6, 7, 9.
+ */
+uint32_t mrt_judge(const uint8_t *s, size_t s_len, size_t at, uint64_t *out, size_t out_len);
+
+/*
+ * Writes a header at the front of `out`, 16 octets for type 17 and 12 for any other, and their number into `*written`, which
+ * must not be NULL. `stored` is the length of the body alone. Refusals: 2, 10, 9; each leaves `out` and `*written`.
+ */
+uint32_t mrt_write_header(uint8_t *out, size_t out_len, uint32_t timestamp, uint16_t type, uint16_t subtype, uint32_t stored,
+                          uint32_t micros, uint64_t *written);
+
+/*
+ * The next answer of a walk over the stream `s`. `walk` has two places: the position, and 1 where the walk is finished or 0
+ * where it is not; a fresh walk has 0 and 0. A scan looks at no more than `window` distances and leaves where `asked` records
+ * stand in a row (0 counts as 1).
+ * Values: 1 (a record), its start, then those of the frame;
+ *         2 (a gap), its start, its end, the refusal's number, the evidence (1 legacy, 2 marker, 3 state change, 4 the record's
+ *           own end, 5 the stream's end), how many records confirm it;
+ *         3 (the end), the walk's position;
+ *         4 (an exhausted window), where the scan started, the window, the number of the record there.
+ * Refusals: 8 where `walk` has fewer than two places, a second place above 1 or a position beyond the stream, then 9 where
+ * `out` has fewer than ten places: both leave everything as it was, so that no answer is lost. 11 leaves its values (4 ..),
+ * and the walk is finished.
+ */
+uint32_t mrt_next(const uint8_t *s, size_t s_len, uint64_t *walk, size_t walk_len, size_t window, uint8_t asked, uint64_t *out,
+                  size_t out_len);
+
+/*
+ * The head of a PEER_INDEX_TABLE whose body holds every declared peer.
+ * Values: collector id, where the view name starts in the body, its octets, how many peers there are, where the first one
+ * starts, where the last one ends. Refusals: 7, 9.
+ */
+uint32_t mrt_check_peers(const uint8_t *body, size_t body_len, uint64_t *out, size_t out_len);
+
+/*
+ * The head of a RIB body; the prefix goes into the first 16 octets of `prefix`, the bits after it cleared.
+ * Values: sequence number, prefix bits, declared count, read count, where the entries start in the body.
+ * Refusals: 6, 7, 9 (fewer than five places or 16 octets).
+ */
+uint32_t mrt_read_rib(const uint8_t *body, size_t body_len, uint16_t subtype, uint64_t *out, size_t out_len, uint8_t *prefix,
+                      size_t prefix_len);
+
+/*
+ * The entry `i` of a RIB body.
+ * Values: peer index, originated time, path number (0 where the subtype has none), where the attributes start in the body,
+ * where they end. Refusals: 6, 7, 8 (at or beyond the read count), 9.
+ */
+uint32_t mrt_rib_entry(const uint8_t *body, size_t body_len, uint16_t subtype, size_t i, uint64_t *out, size_t out_len);
+
+/*
+ * The cursor at the first entry of a RIB body.
+ * Values: where the entry starts in the body, how many are left by the declared count. Refusals: 6, 7, 9.
+ */
+uint32_t mrt_rib_first(const uint8_t *body, size_t body_len, uint16_t subtype, uint64_t *out, size_t out_len);
+
+/*
+ * The entry at a cursor, and the cursor after it. The head is not looked at.
+ * Values: 1, those of the entry, where the next one starts, how many are left; or eight times 0 where none is left or the
+ * next one does not fit. Refusals: 6, 9.
+ */
+uint32_t mrt_rib_next(const uint8_t *body, size_t body_len, uint16_t subtype, size_t at, uint16_t left, uint64_t *out,
+                      size_t out_len);
+
+/* The record's timestamp minus the originated time, in seconds: below zero where the route is later than the record. */
+int64_t mrt_age(uint32_t timestamp, uint32_t originated);
+
+/*
+ * Whether a scan may take up the record at an offset.
+ * Values: 1, the family (5, or 16 for types 16 and 17), the evidence (1 legacy, 2 marker, 3 state change), where the record
+ * ends; or four times 0 where it may not, beyond the stream too. Refusals: 9.
+ */
+uint32_t mrt_candidate(const uint8_t *s, size_t s_len, size_t at, uint64_t *out, size_t out_len);
+
+/*
+ * The check of a body by the type, subtype and stored length of its record. Returns 0, 5 for a type that is not carried, 6 or
+ * 7. Of type 5 the octets are not looked at.
+ */
+uint32_t mrt_check_body(const uint8_t *body, size_t body_len, uint16_t type, uint16_t subtype, uint32_t stored);
+
+#ifdef __cplusplus
+}
+#endif
+
+#endif
