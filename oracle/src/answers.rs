@@ -37,8 +37,10 @@ pub struct Frame {
     pub end: usize,
 }
 
-/// One slot of a lent list of peers. A four-octet address stands in the first four of the sixteen.
+/// One slot of a lent list of peers. A four-octet address stands in the first four of the sixteen. It lies in memory as
+/// the exports' own, so that slots are lent to them as they are.
 #[derive(Debug, Clone, Copy, PartialEq, Eq, Default)]
+#[repr(C)]
 pub struct Peer {
     pub kind: u8,
     pub id: u32,

@@ -9,6 +9,8 @@ pub mod known;
 pub mod make;
 pub mod oracle;
 #[cfg(proved)]
+pub mod exports;
+#[cfg(proved)]
 pub mod proved;
 pub mod question;
 pub mod random;

@@ -1,57 +1,14 @@
 //! The proved library, asked through its C exports (`include/mrt.h`). It is to have no difference from the reading.
 
-use crate::answers::{Answer, Candidate, Event, Frame, Header, RibEntry, RibTable, Walk};
+use crate::answers::{
+    Address, Answer, Candidate, Event, Frame, Header, NewEntry, Peer, PeerTable, RibEntry, RibTable, Walk,
+};
+use crate::exports::{self, Found, Written};
 use crate::question::{Question, Reply};
-use crate::subject::Subject;
+use crate::subject::{NewHead, NewTable, Subject};
 
-extern "C" {
-    fn mrt_read_header(s: *const u8, len: usize, at: usize, out: *mut u64, places: usize) -> u32;
-    fn mrt_frame(s: *const u8, len: usize, at: usize, out: *mut u64, places: usize) -> u32;
-    fn mrt_judge(s: *const u8, len: usize, at: usize, out: *mut u64, places: usize) -> u32;
-    fn mrt_candidate(s: *const u8, len: usize, at: usize, out: *mut u64, places: usize) -> u32;
-    fn mrt_write_header(
-        out: *mut u8,
-        room: usize,
-        timestamp: u32,
-        kind: u16,
-        subtype: u16,
-        stored: u32,
-        micros: u32,
-        written: *mut u64,
-    ) -> u32;
-    fn mrt_next(
-        s: *const u8,
-        len: usize,
-        walk: *mut u64,
-        walk_places: usize,
-        window: usize,
-        asked: u8,
-        out: *mut u64,
-        places: usize,
-    ) -> u32;
-    fn mrt_read_rib(
-        body: *const u8,
-        len: usize,
-        subtype: u16,
-        out: *mut u64,
-        places: usize,
-        prefix: *mut u8,
-        prefix_len: usize,
-    ) -> u32;
-    fn mrt_rib_entry(body: *const u8, len: usize, subtype: u16, i: usize, out: *mut u64, places: usize) -> u32;
-    fn mrt_age(timestamp: u32, originated: u32) -> i64;
-}
-
-/// An export that reads a stream at an offset.
-type At = unsafe extern "C" fn(*const u8, usize, usize, *mut u64, usize) -> u32;
-
-/// The refusal and the values of an export that reads a stream at an offset.
-fn at<const N: usize>(export: At, stream: &[u8], offset: usize) -> (u8, [u64; N]) {
-    let mut out = [0; N];
-    // SAFETY: the slices are lent with their own lengths, and do not overlap.
-    let refusal = unsafe { export(stream.as_ptr(), stream.len(), offset, out.as_mut_ptr(), N) };
-    (refusal as u8, out)
-}
+/// No refusal of 01: two exports that are to say the same do not.
+const AT_ODDS: u8 = 254;
 
 fn header(values: &[u64]) -> Header {
     Header {
@@ -66,6 +23,14 @@ fn header(values: &[u64]) -> Header {
 
 fn frame(values: &[u64]) -> Frame {
     Frame { header: header(values), body: values[6] as usize, end: values[7] as usize }
+}
+
+fn written(written: Written) -> Option<Answer<usize>> {
+    Some(Answer { refusal: written.refusal as u8, value: written.octets as usize })
+}
+
+fn found(found: Found) -> Option<Answer<usize>> {
+    Some(Answer { refusal: found.refusal as u8, value: found.id as usize })
 }
 
 /// What a walk's answer is, by the number of its kind.
@@ -85,6 +50,50 @@ fn event(values: &[u64; 10]) -> Event {
     }
 }
 
+/// The check of a framed record's body by the call that does nothing else, 0 where no record is framed.
+fn check_alone(stream: &[u8], offset: usize) -> u32 {
+    let (refusal, values) = exports::frame(stream, offset);
+    if refusal != 0 {
+        return refusal;
+    }
+    let Frame { header, body, end } = frame(&values);
+    exports::check_body(&stream[body..end], header.kind, header.subtype, header.stored)
+}
+
+/// The values of entry `index` as the cursor comes to them, where it does.
+fn by_cursor(subtype: u16, body: &[u8], index: usize) -> Option<[u64; 5]> {
+    let (refusal, [mut at, mut left]) = exports::rib_first(body, subtype);
+    if refusal != 0 {
+        return None;
+    }
+    let mut passed = 0;
+    loop {
+        let (_, [more, entry @ .., next, after]) = exports::rib_next(body, subtype, at as usize, left as u16);
+        if more == 0 || passed == index {
+            return (more == 1).then_some(entry);
+        }
+        (at, left, passed) = (next, after, passed + 1);
+    }
+}
+
+/// The entry added by a builder that is opened for it.
+fn pushed(buffer: &mut [u8], length: usize, subtype: u16, entry: &NewEntry) -> Written {
+    let refused = |refusal| Written { octets: 0, refusal };
+    let Some(body) = buffer.get(..length) else {
+        return refused(8);
+    };
+    let (refusal, mut builder) = exports::open_rib(body, subtype);
+    if refusal != 0 {
+        return refused(refusal);
+    }
+    let before = builder;
+    match exports::push_entry(buffer, subtype, &mut builder, entry) {
+        0 => Written { octets: builder[0], refusal: 0 },
+        refusal if builder == before => refused(refusal),
+        _ => refused(u32::from(AT_ODDS)),
+    }
+}
+
 pub struct Proved;
 
 impl Subject for Proved {
@@ -93,40 +102,105 @@ impl Subject for Proved {
     }
 
     fn header_read(&self, stream: &[u8], offset: usize) -> Option<Answer<Header>> {
-        let (refusal, values) = at::<6>(mrt_read_header, stream, offset);
-        Some(Answer { refusal, value: header(&values) })
+        let (refusal, values) = exports::read_header(stream, offset);
+        Some(Answer { refusal: refusal as u8, value: header(&values) })
     }
 
     fn header_write(&self, out: &mut [u8], h: &Header) -> Option<Answer<usize>> {
-        let mut written = 0;
-        // SAFETY: the output is lent with its own length, and `written` is a place of its own.
-        let refusal = unsafe {
-            mrt_write_header(
-                out.as_mut_ptr(),
-                out.len(),
-                h.timestamp,
-                h.kind,
-                h.subtype,
-                h.stored,
-                h.micros,
-                &mut written,
-            )
-        };
-        Some(Answer { refusal: refusal as u8, value: written as usize })
+        written(exports::write_header(out, h.timestamp, h.kind, h.subtype, h.stored, h.micros))
     }
 
     fn frame(&self, stream: &[u8], offset: usize) -> Option<Answer<Frame>> {
-        let (refusal, values) = at::<8>(mrt_frame, stream, offset);
-        Some(Answer { refusal, value: frame(&values) })
+        let (refusal, values) = exports::frame(stream, offset);
+        Some(Answer { refusal: refusal as u8, value: frame(&values) })
     }
 
+    /// The judgement, and the body check alone, which is to refuse the same.
     fn judge(&self, stream: &[u8], offset: usize) -> Option<Answer<Frame>> {
-        let (refusal, values) = at::<9>(mrt_judge, stream, offset);
-        Some(Answer { refusal, value: frame(&values[1..]) })
+        let (refusal, values) = exports::judge(stream, offset);
+        if check_alone(stream, offset) != refusal {
+            return Some(Err(AT_ODDS).into());
+        }
+        Some(Answer { refusal: refusal as u8, value: frame(&values[1..]) })
+    }
+
+    /// The slots come from one call and the values from the other, which asks for no slots.
+    fn peer_read(&self, body: &[u8], slots: &mut [Peer]) -> Option<Answer<PeerTable>> {
+        let refusal = exports::load_peers(body, slots);
+        let (unreadable, values) = exports::check_peers(body);
+        if refusal != 0 {
+            let at_odds = (refusal == 9) != (unreadable == 0);
+            return Some(Err(if at_odds { AT_ODDS } else { refusal as u8 }).into());
+        }
+        let [collector, view_at, view_len, count, ..] = values;
+        let [view_at, view_len, count] = [view_at, view_len, count].map(|value| value as usize);
+        let value = PeerTable { collector: collector as u32, view_at, view_len, count };
+        Some(Answer { refusal: unreadable as u8, value })
+    }
+
+    fn peer_find(&self, slots: &[Peer], count: usize, address: &Address) -> Option<Answer<usize>> {
+        found(exports::find_peer(slots, count, u8::from(address.ipv6), &address.octets))
+    }
+
+    fn peer_add(&self, slots: &mut [Peer], count: usize, peer: &Peer) -> Option<Answer<usize>> {
+        found(exports::add_peer(slots, count, peer.kind, peer.id, &peer.address, peer.asn))
+    }
+
+    fn peer_write(&self, out: &mut [u8], table: &NewTable) -> Option<Answer<usize>> {
+        written(exports::write_peers(out, table.collector, table.view, table.slots, table.count))
+    }
+
+    fn rib_read(&self, subtype: u16, body: &[u8]) -> Option<Answer<RibTable>> {
+        let mut prefix = [0; 16];
+        let (refusal, out) = exports::read_rib(body, subtype, &mut prefix);
+        let value = RibTable {
+            sequence: out[0] as u32,
+            bits: out[1] as u8,
+            prefix,
+            declared: out[2] as u16,
+            read: out[3] as u16,
+        };
+        Some(Answer { refusal: refusal as u8, value })
+    }
+
+    /// The entry by its number, and by the cursor, which is to come to the same.
+    fn rib_entry(&self, subtype: u16, body: &[u8], timestamp: u32, index: usize) -> Option<Answer<RibEntry>> {
+        let (refusal, out) = exports::rib_entry(body, subtype, index);
+        if by_cursor(subtype, body, index) != (refusal == 0).then_some(out) {
+            return Some(Err(AT_ODDS).into());
+        }
+        if refusal != 0 {
+            return Some(Err(refusal as u8).into());
+        }
+        let [peer, originated, path, start, end] = out;
+        let value = RibEntry {
+            peer_index: peer as u16,
+            originated: originated as u32,
+            path: path as u32,
+            attributes_at: start as usize,
+            attributes_len: (end - start) as usize,
+            age: exports::age(timestamp, originated as u32),
+        };
+        Some(Ok(value).into())
+    }
+
+    fn rib_begin(&self, out: &mut [u8], head: &NewHead) -> Option<Answer<usize>> {
+        written(exports::begin_rib(out, head.subtype, head.sequence, head.bits, &head.prefix))
+    }
+
+    /// The entry added to the body, and by a builder on a copy, which is to write the same.
+    fn rib_add(&self, buffer: &mut [u8], length: usize, subtype: u16, entry: &NewEntry) -> Option<Answer<usize>> {
+        let mut copy = buffer.to_vec();
+        let by_builder = pushed(&mut copy, length, subtype, entry);
+        let added = exports::add_entry(buffer, length, subtype, entry);
+        if by_builder != added || copy != buffer {
+            return Some(Err(AT_ODDS).into());
+        }
+        written(added)
     }
 
     fn candidate(&self, stream: &[u8], offset: usize) -> Option<Candidate> {
-        let (_, values) = at::<4>(mrt_candidate, stream, offset);
+        let (_, values) = exports::candidate(stream, offset);
         Some(Candidate {
             stands: values[0] == 1,
             family: values[1] as u16,
@@ -138,47 +212,9 @@ impl Subject for Proved {
     fn step(&self, stream: &[u8], walk: &mut Walk, window: usize, asked: u8) -> Option<Event> {
         let mut state = [walk.position as u64, u64::from(walk.finished)];
         let mut out = [0; 10];
-        // SAFETY: the slices are lent with their own lengths, and do not overlap.
-        let refusal = unsafe {
-            mrt_next(stream.as_ptr(), stream.len(), state.as_mut_ptr(), 2, window, asked, out.as_mut_ptr(), 10)
-        };
+        let refusal = exports::next(stream, &mut state, window, asked, &mut out);
         *walk = Walk { position: state[0] as usize, finished: state[1] == 1 };
         Some(if refusal == 8 { Event::Beyond } else { event(&out) })
-    }
-
-    fn rib_read(&self, subtype: u16, body: &[u8]) -> Option<Answer<RibTable>> {
-        let (mut out, mut prefix) = ([0; 5], [0; 16]);
-        // SAFETY: the slices are lent with their own lengths, and do not overlap.
-        let refusal = unsafe {
-            mrt_read_rib(body.as_ptr(), body.len(), subtype, out.as_mut_ptr(), 5, prefix.as_mut_ptr(), 16)
-        };
-        let value = RibTable {
-            sequence: out[0] as u32,
-            bits: out[1] as u8,
-            prefix,
-            declared: out[2] as u16,
-            read: out[3] as u16,
-        };
-        Some(Answer { refusal: refusal as u8, value })
-    }
-
-    fn rib_entry(&self, subtype: u16, body: &[u8], timestamp: u32, index: usize) -> Option<Answer<RibEntry>> {
-        let mut out = [0; 5];
-        // SAFETY: the slices are lent with their own lengths, and do not overlap.
-        let refusal = unsafe { mrt_rib_entry(body.as_ptr(), body.len(), subtype, index, out.as_mut_ptr(), 5) };
-        let mut value = RibEntry {
-            peer_index: out[0] as u16,
-            originated: out[1] as u32,
-            path: out[2] as u32,
-            attributes_at: out[3] as usize,
-            attributes_len: (out[4] - out[3]) as usize,
-            age: 0,
-        };
-        if refusal == 0 {
-            // SAFETY: numbers alone.
-            value.age = unsafe { mrt_age(timestamp, value.originated) };
-        }
-        Some(Answer { refusal: refusal as u8, value })
     }
 }
 
@@ -187,17 +223,7 @@ pub fn difference(_: &Question, _: &Reply, _: &Reply) -> Option<&'static str> {
     None
 }
 
-/// What has no export yet: the peer slots and the RIB writer, and the two parts of a call that have no call of their own.
+/// The two parts of a walk's call have no call of their own.
 pub fn may_be_silent(question: &Question, _: &Reply) -> bool {
-    matches!(
-        question,
-        Question::PeerRead { .. }
-            | Question::PeerFind { .. }
-            | Question::PeerAdd { .. }
-            | Question::PeerWrite { .. }
-            | Question::RibBegin { .. }
-            | Question::RibAdd { .. }
-            | Question::Aligned { .. }
-            | Question::Scan { .. }
-    )
+    matches!(question, Question::Aligned { .. } | Question::Scan { .. })
 }

@@ -12,7 +12,7 @@ use crate::answers::{
 };
 use crate::subject::{NewHead, NewTable, Subject};
 
-pub use walks::CrateWalk;
+pub use walks::{evidence_number, CrateWalk};
 pub use words::{number as number_of_words, TOO_LARGE, UNKNOWN_WORDS};
 
 pub use bgpkit_part::parser::with_own_parsers;

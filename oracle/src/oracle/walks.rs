@@ -74,7 +74,7 @@ impl Iterator for CrateWalk<'_> {
     }
 }
 
-fn evidence_number(evidence: RecoveryEvidence) -> u8 {
+pub fn evidence_number(evidence: RecoveryEvidence) -> u8 {
     match evidence {
         RecoveryEvidence::LegacyMrtChain => 1,
         RecoveryEvidence::BgpMarkerChain => 2,

@@ -1,0 +1,142 @@
+//! Candidates, the scan and the walk.
+
+use super::record::{
+    as_size, check, header, is_state_change, judge, legacy_bounds, Record, Verdict, BGP4MP, BGP4MP_ET, LEGACY,
+};
+use mrt_oracle::answers::Header;
+
+const MOST_STORED: u32 = 65_599;
+const SECOND: u32 = 1_000_000;
+
+pub enum Answer {
+    Record { start: usize, record: Record },
+    Gap { start: usize, end: usize, refusal: u8, evidence: u8, confirmed: u8 },
+    End(usize),
+    Window { start: usize, refusal: u8 },
+}
+
+/// A walk over a stream.
+pub struct Walk<'a> {
+    stream: &'a [u8],
+    at: usize,
+    finished: bool,
+    window: usize,
+    asked: u8,
+}
+
+impl<'a> Walk<'a> {
+    pub fn new(stream: &'a [u8], window: usize, asked: u8) -> Self {
+        Walk { stream, at: 0, finished: false, window, asked: asked.max(1) }
+    }
+
+    #[inline(always)]
+    pub fn next(&mut self) -> Answer {
+        let start = self.at;
+        if self.finished || start == self.stream.len() {
+            self.finished = true;
+            return Answer::End(start);
+        }
+        match judge(self.stream, start) {
+            Verdict::Fit(record) => {
+                self.at = record.end;
+                Answer::Record { start, record }
+            }
+            Verdict::Off { refusal, end } => self.resume(refusal, end),
+            Verdict::Cut(refusal) => self.search(refusal),
+        }
+    }
+
+    /// The record's own end, and then the scan.
+    fn resume(&mut self, refusal: u8, end: usize) -> Answer {
+        let start = self.at;
+        match own_end(self.stream, end, self.asked) {
+            Some(confirmed) => {
+                self.at = end;
+                Answer::Gap { start, end, refusal, evidence: 4, confirmed }
+            }
+            None => self.search(refusal),
+        }
+    }
+
+    fn search(&mut self, refusal: u8) -> Answer {
+        let start = self.at;
+        if let Some((end, evidence)) = scan(self.stream, start, self.window, self.asked) {
+            self.at = end;
+            return Answer::Gap { start, end, refusal, evidence, confirmed: self.asked };
+        }
+        let left = self.stream.len() - start;
+        if self.window >= 1 && left.saturating_sub(5) <= self.window {
+            self.at = self.stream.len();
+            return Answer::Gap { start, end: self.at, refusal, evidence: 5, confirmed: 0 };
+        }
+        self.finished = true;
+        Answer::Window { start, refusal }
+    }
+}
+
+/// How many records pass from an offset on, where the asked number pass or the stream ends between two.
+fn own_end(stream: &[u8], from: usize, asked: u8) -> Option<u8> {
+    let mut at = from;
+    for passed in 0..asked {
+        if at == stream.len() {
+            return Some(passed);
+        }
+        let Verdict::Fit(record) = judge(stream, at) else {
+            return None;
+        };
+        at = record.end;
+    }
+    Some(asked)
+}
+
+/// The first offset after `from` where a row of candidates stands, with the first one's evidence.
+fn scan(stream: &[u8], from: usize, window: usize, asked: u8) -> Option<(usize, u8)> {
+    let distances = window.min((stream.len() - from).saturating_sub(12));
+    // The two type octets of each distance; nearly every one is passed over here.
+    let types = stream.get(from + 5..from + 6 + distances)?;
+    for (before, pair) in types.windows(2).enumerate() {
+        if pair[0] == 0 && matches!(pair[1], 5 | 16 | 17) {
+            let offset = from + 1 + before;
+            if let Some(evidence) = row(stream, offset, asked) {
+                return Some((offset, evidence));
+            }
+        }
+    }
+    None
+}
+
+/// The evidence of the first of `asked` candidates of one family in a row.
+fn row(stream: &[u8], at: usize, asked: u8) -> Option<u8> {
+    let (first, mut end) = candidate(stream, at)?;
+    for _ in 1..asked {
+        let (next, after) = candidate(stream, end)?;
+        if (next.kind == LEGACY) != (first.kind == LEGACY) {
+            return None;
+        }
+        end = after;
+    }
+    Some(match first.kind {
+        LEGACY => 1,
+        _ if is_state_change(first.subtype) => 3,
+        _ => 2,
+    })
+}
+
+/// The header of the candidate at an offset, and where it ends.
+#[inline(always)]
+fn candidate(stream: &[u8], at: usize) -> Option<(Header, usize)> {
+    let rest = stream.get(at..)?;
+    let header = header(rest).ok()?;
+    let stored = header.stored as usize;
+    let plausible = match header.kind {
+        LEGACY => legacy_bounds(header.subtype).is_some_and(|(low, high)| low <= stored && stored <= high),
+        BGP4MP | BGP4MP_ET => as_size(header.subtype) != 0 && header.micros < SECOND,
+        _ => false,
+    };
+    if !plausible || header.stored > MOST_STORED {
+        return None;
+    }
+    let size = if header.kind == BGP4MP_ET { 16 } else { 12 };
+    let body = rest.get(size..size + stored)?;
+    (check(header.kind, header.subtype, body) == 0).then_some((header, at + size + stored))
+}

@@ -1,0 +1,66 @@
+//! One line for each work: the crate's best time, the expert's, ours, and what part of theirs ours is.
+
+mod expert;
+mod inputs;
+mod measure;
+mod works;
+
+use inputs::MIB;
+use measure::{measure, Line, Ratio};
+use std::time::Duration;
+use works::walks;
+
+const ROUNDS: usize = 15;
+
+fn milliseconds(time: Duration) -> String {
+    format!("{:.2}", time.as_secs_f64() * 1_000.0)
+}
+
+fn shown(ratio: &Ratio) -> String {
+    format!("{:.2} ({:.2}-{:.2})", ratio.best, ratio.least, ratio.greatest)
+}
+
+fn print(line: &Line) {
+    let by_crate = line.by_crate.as_ref();
+    let cells = [
+        line.name.clone(),
+        by_crate.map_or("-".to_string(), |timed| milliseconds(timed.best)),
+        milliseconds(line.expert.best),
+        milliseconds(line.ours),
+        by_crate.map_or("-".to_string(), |timed| shown(&timed.ratio)),
+        shown(&line.expert.ratio),
+    ];
+    println!("| {} |", cells.join(" | "));
+}
+
+/// The works whose names hold one of these words; all where there are none.
+struct Chosen(Vec<String>);
+
+impl Chosen {
+    fn has(&self, name: &str) -> bool {
+        self.0.is_empty() || self.0.iter().any(|word| name.contains(word.as_str()))
+    }
+
+    /// One line for a walk over a stream, or why there is none.
+    fn walk(&self, name: &str, stream: impl FnOnce() -> Result<Vec<u8>, String>, window: usize) {
+        if !self.has(name) {
+            return;
+        }
+        match stream() {
+            Err(why) => println!("| {name}: left out, {why} |"),
+            Ok(stream) => print(&measure(walks::walk(name, &stream, window, 3), ROUNDS)),
+        }
+    }
+}
+
+fn main() {
+    let chosen = Chosen(std::env::args().skip(1).collect());
+    println!("| work | crate ms | expert ms | ours ms | crate/ours | expert/ours |");
+    println!("|---|---|---|---|---|---|");
+    chosen.walk("walk, 64 MiB of updates", || inputs::updates(64 * MIB), MIB);
+    chosen.walk("walk, a RIB of 73 MiB", || inputs::big("bird2012_big_rib46.mrt.xz"), MIB);
+    let torn = || inputs::updates(4 * MIB).map(|stream| inputs::torn(&stream));
+    chosen.walk("walk, 4 MiB damaged every 5,000 octets", torn, MIB);
+    chosen.walk("scan, 8 MiB of noise", || Ok(inputs::noise(8 * MIB)), 8 * MIB);
+    chosen.walk("scan, 8 MiB of false starts", || Ok(inputs::false_starts(8 * MIB)), 8 * MIB);
+}

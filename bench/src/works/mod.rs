@@ -1,0 +1,3 @@
+//! The works, each set out for the three sides.
+
+pub mod walks;
