@@ -40,6 +40,7 @@ extern "C" {
 #define MRT_ENTRY_VALUES 5
 #define MRT_FIRST_VALUES 2
 #define MRT_STEP_VALUES 8
+#define MRT_BUILDER_VALUES 3
 #define MRT_CANDIDATE_VALUES 4
 
 /* The kinds of a walk's answer. */
@@ -47,6 +48,12 @@ extern "C" {
 #define MRT_GAP 2
 #define MRT_END 3
 #define MRT_WINDOW 4
+
+/* What a writer returns: a refusal's number or 0, and how many octets it has written, 0 where it has refused. */
+typedef struct mrt_written {
+    uint64_t octets;
+    uint32_t refusal;
+} mrt_written;
 
 /*
  * The header at the offset `at` of the stream `s`.
@@ -67,11 +74,11 @@ uint32_t mrt_frame(const uint8_t *s, size_t s_len, size_t at, uint64_t *out, siz
 uint32_t mrt_judge(const uint8_t *s, size_t s_len, size_t at, uint64_t *out, size_t out_len);
 
 /*
- * Writes a header at the front of `out`, 16 octets for type 17 and 12 for any other, and their number into `*written`, which
- * must not be NULL. `stored` is the length of the body alone. Refusals: 2, 10, 9; each leaves `out` and `*written`.
+ * Writes a header at the front of `out`: 16 octets for type 17 and 12 for any other. `stored` is the length of the body alone.
+ * Refusals: 2, 10, 9.
  */
-uint32_t mrt_write_header(uint8_t *out, size_t out_len, uint32_t timestamp, uint16_t type, uint16_t subtype, uint32_t stored,
-                          uint32_t micros, uint64_t *written);
+mrt_written mrt_write_header(uint8_t *out, size_t out_len, uint32_t timestamp, uint16_t type, uint16_t subtype, uint32_t stored,
+                             uint32_t micros);
 
 /*
  * The next answer of a walk over the stream `s`. `walk` has two places: the position, and 1 where the walk is finished or 0
@@ -124,6 +131,35 @@ uint32_t mrt_rib_first(const uint8_t *body, size_t body_len, uint16_t subtype, u
  */
 uint32_t mrt_rib_next(const uint8_t *body, size_t body_len, uint16_t subtype, size_t at, uint16_t left, uint64_t *out,
                       size_t out_len);
+
+/*
+ * Begins a RIB body with no entry at the front of `out`. `prefix` has 16 octets, of which the first that hold `bits` bits are
+ * written; the bits after them are cleared. Refusals: 8 (a prefix of fewer octets), 6, 10 (too many bits), 9.
+ */
+mrt_written mrt_begin_rib(uint8_t *out, size_t out_len, uint16_t subtype, uint32_t sequence, uint8_t bits, const uint8_t *prefix,
+                          size_t prefix_len);
+
+/*
+ * Adds an entry to the body in the first `len` octets of `out`, straight after it, and raises its count. `path` is 0 where the
+ * subtype has no path number. The octets of the answer are the length of the body after it. All earlier entries are passed
+ * over: for many entries, open a builder and push. Refusals: 8, 6, 7 (a body that is not whole), 10, 9.
+ */
+mrt_written mrt_add_entry(uint8_t *out, size_t out_len, size_t len, uint16_t subtype, uint16_t peer, uint32_t originated,
+                          uint32_t path, const uint8_t *attributes, size_t attributes_len);
+
+/*
+ * A builder at the end of a body that has every declared entry and nothing after them.
+ * Values: where the body ends, where its entry count stands, that count. Refusals: 6, 7, 9.
+ */
+uint32_t mrt_open_rib(const uint8_t *body, size_t body_len, uint16_t subtype, uint64_t *out, size_t out_len);
+
+/*
+ * Writes an entry where a builder stands, raises the count, and moves the builder, which is lent as the three values of
+ * mrt_open_rib. The entries before it are not looked at. Refusals: 8 (fewer than three places, a count above 65,535, a builder
+ * beyond `out`, a count that lies beyond its body), 6, 10, 9; each leaves `out` and the builder.
+ */
+uint32_t mrt_push_entry(uint8_t *out, size_t out_len, uint16_t subtype, uint64_t *builder, size_t builder_len, uint16_t peer,
+                        uint32_t originated, uint32_t path, const uint8_t *attributes, size_t attributes_len);
 
 /* The record's timestamp minus the originated time, in seconds: below zero where the route is later than the record. */
 int64_t mrt_age(uint32_t timestamp, uint32_t originated);

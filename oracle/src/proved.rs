@@ -17,8 +17,7 @@ extern "C" {
         subtype: u16,
         stored: u32,
         micros: u32,
-        written: *mut u64,
-    ) -> u32;
+    ) -> Written;
     fn mrt_next(
         s: *const u8,
         len: usize,
@@ -40,6 +39,19 @@ extern "C" {
     ) -> u32;
     fn mrt_rib_entry(body: *const u8, len: usize, subtype: u16, i: usize, out: *mut u64, places: usize) -> u32;
     fn mrt_age(timestamp: u32, originated: u32) -> i64;
+}
+
+/// What a writer returns.
+#[repr(C)]
+struct Written {
+    octets: u64,
+    refusal: u32,
+}
+
+impl Written {
+    fn answer(self) -> Answer<usize> {
+        Answer { refusal: self.refusal as u8, value: self.octets as usize }
+    }
 }
 
 /// An export that reads a stream at an offset.
@@ -98,21 +110,11 @@ impl Subject for Proved {
     }
 
     fn header_write(&self, out: &mut [u8], h: &Header) -> Option<Answer<usize>> {
-        let mut written = 0;
-        // SAFETY: the output is lent with its own length, and `written` is a place of its own.
-        let refusal = unsafe {
-            mrt_write_header(
-                out.as_mut_ptr(),
-                out.len(),
-                h.timestamp,
-                h.kind,
-                h.subtype,
-                h.stored,
-                h.micros,
-                &mut written,
-            )
+        // SAFETY: the output is lent with its own length.
+        let written = unsafe {
+            mrt_write_header(out.as_mut_ptr(), out.len(), h.timestamp, h.kind, h.subtype, h.stored, h.micros)
         };
-        Some(Answer { refusal: refusal as u8, value: written as usize })
+        Some(written.answer())
     }
 
     fn frame(&self, stream: &[u8], offset: usize) -> Option<Answer<Frame>> {
