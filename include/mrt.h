@@ -40,6 +40,7 @@ extern "C" {
 #define MRT_ENTRY_VALUES 5
 #define MRT_FIRST_VALUES 2
 #define MRT_STEP_VALUES 8
+#define MRT_BUILDER_VALUES 3
 #define MRT_CANDIDATE_VALUES 4
 
 /* The kinds of a walk's answer. */
@@ -47,6 +48,29 @@ extern "C" {
 #define MRT_GAP 2
 #define MRT_END 3
 #define MRT_WINDOW 4
+
+/* What a writer returns: a refusal's number or 0, and how many octets it has written, 0 where it has refused. */
+typedef struct mrt_written {
+    uint64_t octets;
+    uint32_t refusal;
+} mrt_written;
+
+/* What a lookup and an addition return: a refusal's number or 0, and the id of a peer, 0 where they have refused. */
+typedef struct mrt_found {
+    uint32_t refusal;
+    uint32_t id;
+} mrt_found;
+
+/*
+ * A peer, as the slots hold it, in 28 octets; the three after `type` are not looked at. Bit value 1 of `type` means an IPv6
+ * address, value 2 an AS of four octets. A four-octet address is the first four of `addr`.
+ */
+typedef struct mrt_peer {
+    uint8_t type;
+    uint32_t id;
+    uint8_t addr[16];
+    uint32_t asn;
+} mrt_peer;
 
 /*
  * The header at the offset `at` of the stream `s`.
@@ -67,11 +91,11 @@ uint32_t mrt_frame(const uint8_t *s, size_t s_len, size_t at, uint64_t *out, siz
 uint32_t mrt_judge(const uint8_t *s, size_t s_len, size_t at, uint64_t *out, size_t out_len);
 
 /*
- * Writes a header at the front of `out`, 16 octets for type 17 and 12 for any other, and their number into `*written`, which
- * must not be NULL. `stored` is the length of the body alone. Refusals: 2, 10, 9; each leaves `out` and `*written`.
+ * Writes a header at the front of `out`: 16 octets for type 17 and 12 for any other. `stored` is the length of the body alone.
+ * Refusals: 2, 10, 9.
  */
-uint32_t mrt_write_header(uint8_t *out, size_t out_len, uint32_t timestamp, uint16_t type, uint16_t subtype, uint32_t stored,
-                          uint32_t micros, uint64_t *written);
+mrt_written mrt_write_header(uint8_t *out, size_t out_len, uint32_t timestamp, uint16_t type, uint16_t subtype, uint32_t stored,
+                             uint32_t micros);
 
 /*
  * The next answer of a walk over the stream `s`. `walk` has two places: the position, and 1 where the walk is finished or 0
@@ -95,6 +119,37 @@ uint32_t mrt_next(const uint8_t *s, size_t s_len, uint64_t *walk, size_t walk_le
  * starts, where the last one ends. Refusals: 7, 9.
  */
 uint32_t mrt_check_peers(const uint8_t *body, size_t body_len, uint64_t *out, size_t out_len);
+
+/*
+ * The peers of a PEER_INDEX_TABLE in the first slots, one each, zeros after a four-octet address; later slots keep what they
+ * had. mrt_check_peers says how many there are. Refusals: 7, 9 (too few slots).
+ */
+uint32_t mrt_load_peers(const uint8_t *body, size_t body_len, mrt_peer *slots, size_t slots_len);
+
+/*
+ * The highest id among the first `count` slots that holds an address. Of `type` bit value 1 counts alone, of `addr` the first
+ * sixteen octets, or four where the type says IPv4. Refusals: 8 where `addr` has fewer than 16 octets, where `count` is above the
+ * slots or above 65,535, and where no slot holds the address.
+ */
+mrt_found mrt_find_peer(const mrt_peer *slots, size_t slots_len, size_t count, uint8_t type, const uint8_t *addr,
+                        size_t addr_len);
+
+/*
+ * Adds a peer to the first `count` slots. A known address gives its id, below the count, and changes nothing. Any other gives the
+ * count: the peer is in that slot, zeros after a four-octet address, and the count is the caller's to raise.
+ * Refusals: 8 where `addr` has fewer than 16 octets and where `count` is above the slots or above 65,535, then, for an address
+ * that is not known, 10 at 65,535 peers and 9 where no slot is left.
+ */
+mrt_found mrt_add_peer(mrt_peer *slots, size_t slots_len, size_t count, uint8_t type, uint32_t id, const uint8_t *addr,
+                       size_t addr_len, uint32_t asn);
+
+/*
+ * Writes the body of a PEER_INDEX_TABLE at the front of `out`: the collector id, the view name and the first `count` slots.
+ * Refusals: 8 where `count` is above the slots or above 65,535, 10 where the view name has more than 65,535 octets or an AS above
+ * 65,535 has two octets, 9.
+ */
+mrt_written mrt_write_peers(uint8_t *out, size_t out_len, uint32_t collector, const uint8_t *view, size_t view_len,
+                            const mrt_peer *slots, size_t slots_len, size_t count);
 
 /*
  * The head of a RIB body; the prefix goes into the first 16 octets of `prefix`, the bits after it cleared.
@@ -124,6 +179,35 @@ uint32_t mrt_rib_first(const uint8_t *body, size_t body_len, uint16_t subtype, u
  */
 uint32_t mrt_rib_next(const uint8_t *body, size_t body_len, uint16_t subtype, size_t at, uint16_t left, uint64_t *out,
                       size_t out_len);
+
+/*
+ * Begins a RIB body with no entry at the front of `out`. `prefix` has 16 octets, of which the first that hold `bits` bits are
+ * written; the bits after them are cleared. Refusals: 8 (a prefix of fewer octets), 6, 10 (too many bits), 9.
+ */
+mrt_written mrt_begin_rib(uint8_t *out, size_t out_len, uint16_t subtype, uint32_t sequence, uint8_t bits, const uint8_t *prefix,
+                          size_t prefix_len);
+
+/*
+ * Adds an entry to the body in the first `len` octets of `out`, straight after it, and raises its count. `path` is 0 where the
+ * subtype has no path number. The octets of the answer are the length of the body after it. All earlier entries are passed
+ * over: for many entries, open a builder and push. Refusals: 8, 6, 7 (a body that is not whole), 10, 9.
+ */
+mrt_written mrt_add_entry(uint8_t *out, size_t out_len, size_t len, uint16_t subtype, uint16_t peer, uint32_t originated,
+                          uint32_t path, const uint8_t *attributes, size_t attributes_len);
+
+/*
+ * A builder at the end of a body that has every declared entry and nothing after them.
+ * Values: where the body ends, where its entry count stands, that count. Refusals: 6, 7, 9.
+ */
+uint32_t mrt_open_rib(const uint8_t *body, size_t body_len, uint16_t subtype, uint64_t *out, size_t out_len);
+
+/*
+ * Writes an entry where a builder stands, raises the count, and moves the builder, which is lent as the three values of
+ * mrt_open_rib. The entries before it are not looked at. Refusals: 8 (fewer than three places, a count above 65,535, a builder
+ * beyond `out`, a count that lies beyond its body), 6, 10, 9; each leaves `out` and the builder.
+ */
+uint32_t mrt_push_entry(uint8_t *out, size_t out_len, uint16_t subtype, uint64_t *builder, size_t builder_len, uint16_t peer,
+                        uint32_t originated, uint32_t path, const uint8_t *attributes, size_t attributes_len);
 
 /* The record's timestamp minus the originated time, in seconds: below zero where the route is later than the record. */
 int64_t mrt_age(uint32_t timestamp, uint32_t originated);

@@ -1,0 +1,25 @@
+-- Judgements, exported (01, Body checks; Walk, confirmation, scan): a record that is judged has its start before the values of
+-- its frame; a scan's candidate has 1, its family, its evidence and where it ends, or four times 0 where the record is none.
+use Prim.Native.Nat.{ℕ}
+use mathlib.Core.List.{List, [], _∷_}
+use Rattle.walk.specs.Judged.{Candidate, stands, fails}
+use Rattle.judge.specs.Record.{Judging}
+use Rattle.lent.specs.Export.{exported}
+use Rattle.lent.specs.Records.{frameValues}
+
+-- the values of a record that is judged
+abbrev pub judgeValues : Judging → List ℕ
+judgeValues j = j .start ∷ frameValues (j .frame)
+
+-- a record that is judged
+abbrev pub judgedOut : List ℕ → Judging → List ℕ × ℕ
+judgedOut out j = exported out (j .frame .head .number) (judgeValues j)
+
+-- the values of a candidate
+abbrev pub candidateValues : Candidate → List ℕ
+candidateValues (stands f v e) = 1 ∷ f ∷ v ∷ e ∷ []
+candidateValues fails = 0 ∷ 0 ∷ 0 ∷ 0 ∷ []
+
+-- a record that is tested
+abbrev pub candidateOut : List ℕ → Candidate → List ℕ × ℕ
+candidateOut out c = exported out 0 (candidateValues c)

@@ -1,0 +1,2 @@
+-- Judged: what the calls that judge return and leave.
+pub mod Judged

@@ -1,0 +1,2 @@
+-- Ribs: the cases of `mrt_read_rib`.
+pub mod Ribs

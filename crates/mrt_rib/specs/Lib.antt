@@ -1,0 +1,2 @@
+-- Bodies: what the calls that read RIB bodies return and leave.
+pub mod Bodies

@@ -1,0 +1,2 @@
+-- Build: what the calls that write RIB bodies return and leave.
+pub mod Build

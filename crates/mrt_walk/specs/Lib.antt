@@ -1,0 +1,2 @@
+-- Next: one call of the walk.
+pub mod Next

@@ -1,0 +1,103 @@
+// The walk across the boundary.
+ghost use mathlib.Core.Path.{_≡_};
+ghost use Rattle.recover.specs.Answers.{said};
+ghost use Rattle.mrt_walk.specs.Next.{answerOut, nextOut};
+use lent::put_values;
+use lent::refusal;
+use recover::WalkAnswer;
+use walk::Walk;
+
+// The next answer of a walk that is lent as its position and its finished mark. Room for every answer is asked for before the
+// walk moves, so that no answer is lost.
+#[no_mangle]
+pub extern "C" fn mrt_next(
+    s: &[u8],
+    walk: &mut [u64],
+    window: usize,
+    asked: u8,
+    out: &mut [u64],
+) -> u32
+    ensures answer { λ r. ⌜ (now (walk .exit), (now (out .exit), r)) ≡ nextOut (now (s .entry)) (now (walk .entry)) window asked (now (out .entry)) ⌝ }
+{
+    if walk.len() < 2 {
+        return 8;
+    }
+    let position = walk[0] as usize;
+    let finished = walk[1];
+    if 1 < finished {
+        return 8;
+    }
+    if s.len() < position {
+        return 8;
+    }
+    if out.len() < 10 {
+        return 9;
+    }
+    let before = Walk {
+        position,
+        finished: finished == 1,
+    };
+    let after = recover::step(s, before, window, asked);
+    let moved = after.walk;
+    walk[0] = moved.position as u64;
+    walk[1] = lent::mark_of(moved.finished);
+    let answer = after.answer;
+    put_answer(out, answer)
+}
+
+// The values of an answer, and what is returned for it.
+fn put_answer(out: &mut [u64], a: WalkAnswer) -> u32
+    ensures { λ r. ⌜ (now (out .exit), r) ≡ answerOut (now (out .entry)) (said a) ⌝ }
+{
+    match a {
+        WalkAnswer::Record {
+            start,
+            header,
+            wire,
+            body,
+            end,
+        } => {
+            let v = lent::record_values(1, start, header, wire, body, end);
+            put_values(out, &v);
+            0
+        }
+        WalkAnswer::Gap {
+            start,
+            end,
+            refusal: why,
+            evidence,
+            confirmed,
+        } => {
+            let v = [
+                2,
+                start as u64,
+                end as u64,
+                refusal(why) as u64,
+                evidence as u64,
+                confirmed as u64,
+            ];
+            put_values(out, &v);
+            0
+        }
+        WalkAnswer::End(p) => {
+            let v = [3, p as u64];
+            put_values(out, &v);
+            0
+        }
+        WalkAnswer::Window {
+            start,
+            window,
+            refusal: why,
+        } => {
+            let v = [4, start as u64, window as u64, refusal(why) as u64];
+            put_values(out, &v);
+            11
+        }
+        // A walk within its stream has no such answer.
+        WalkAnswer::Refused(why) => {
+            let v = [4, 0, 0, 0];
+            put_values(out, &v);
+            refusal(why)
+        }
+    }
+}
