@@ -2,6 +2,7 @@
 
 use mrt_oracle::answers::{Event, Walk};
 use mrt_oracle::campaigns::real;
+use mrt_oracle::make;
 use mrt_oracle::random::Random;
 use mrt_oracle::reading;
 use std::process::Command;
@@ -69,4 +70,20 @@ pub fn false_starts(octets: usize) -> Vec<u8> {
     stream.extend([0, 5, 0, 1, 0, 0, 0, 16].repeat(third));
     lose(&mut stream);
     stream
+}
+
+/// Every eighth offset begins a record of type 5 with 32 octets, and no row of them has the asked number.
+pub fn broken_rows(octets: usize, asked: usize) -> Vec<u8> {
+    let mut part = [0, 5, 0, 1, 0, 0, 0, 20].repeat(4 * (asked - 1));
+    part.extend([255; 32]);
+    let mut stream = part.repeat(octets / part.len());
+    lose(&mut stream);
+    stream
+}
+
+/// Records of type 32, which are not carried, each with the asked number of good records after it.
+pub fn refused_rows(octets: usize, asked: usize) -> Vec<u8> {
+    let mut part = make::record(32, 0, &[]);
+    part.extend(make::record(5, 7, &[0; 12]).repeat(asked));
+    part.repeat(octets / part.len())
 }

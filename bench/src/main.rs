@@ -1,13 +1,16 @@
 //! One line for each work: the crate's best time, the expert's, ours, and what part of theirs ours is.
 
 mod expert;
+mod growth;
 mod inputs;
 mod measure;
 mod works;
 
 use inputs::MIB;
-use measure::{measure, Line, Ratio};
+use measure::{measure, Line, Ratio, Work};
 use std::time::Duration;
+use works::peers::Table;
+use works::ribs::Rib;
 use works::walks;
 
 const ROUNDS: usize = 15;
@@ -41,6 +44,12 @@ impl Chosen {
         self.0.is_empty() || self.0.iter().any(|word| name.contains(word.as_str()))
     }
 
+    fn run(&self, work: Work) {
+        if self.has(&work.name) {
+            print(&measure(work, ROUNDS));
+        }
+    }
+
     /// One line for a walk over a stream, or why there is none.
     fn walk(&self, name: &str, stream: impl FnOnce() -> Result<Vec<u8>, String>, window: usize) {
         if !self.has(name) {
@@ -48,13 +57,16 @@ impl Chosen {
         }
         match stream() {
             Err(why) => println!("| {name}: left out, {why} |"),
-            Ok(stream) => print(&measure(walks::walk(name, &stream, window, 3), ROUNDS)),
+            Ok(stream) => self.run(walks::walk(name, &stream, window, 3)),
         }
     }
 }
 
 fn main() {
     let chosen = Chosen(std::env::args().skip(1).collect());
+    if chosen.0.first().is_some_and(|word| word == "growth") {
+        return growth::print();
+    }
     println!("| work | crate ms | expert ms | ours ms | crate/ours | expert/ours |");
     println!("|---|---|---|---|---|---|");
     chosen.walk("walk, 64 MiB of updates", || inputs::updates(64 * MIB), MIB);
@@ -63,4 +75,11 @@ fn main() {
     chosen.walk("walk, 4 MiB damaged every 5,000 octets", torn, MIB);
     chosen.walk("scan, 8 MiB of noise", || Ok(inputs::noise(8 * MIB)), 8 * MIB);
     chosen.walk("scan, 8 MiB of false starts", || Ok(inputs::false_starts(8 * MIB)), 8 * MIB);
+    let table = Table::new(65_535);
+    chosen.run(table.read("peer table of 65,535, read"));
+    chosen.run(table.find("peer table of 65,535, 64 lookups", 64));
+    chosen.run(table.write("peer table of 65,535, written"));
+    let rib = Rib::new(65_535);
+    chosen.run(rib.read("RIB record of 65,535 entries, read"));
+    chosen.run(rib.build("RIB record of 65,535 entries, built"));
 }

@@ -1,3 +1,5 @@
 //! The works, each set out for the three sides.
 
+pub mod peers;
+pub mod ribs;
 pub mod walks;

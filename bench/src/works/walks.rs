@@ -1,5 +1,6 @@
 //! Walks and scans over whole streams.
 
+use crate::expert::record;
 use crate::expert::walk::{Answer, Walk};
 use crate::measure::Work;
 use bgpkit_part::models::CommonHeader;
@@ -7,77 +8,126 @@ use bgpkit_part::parser::iters::recovery::{RecoveringRecordIterator, RecoveryCon
 use bgpkit_part::parser::BgpkitParser;
 use mrt_oracle::exports;
 
-/// What a walk has said, in one number: records and gaps with their places, and what each says of itself that every side
-/// has. The refusal of a gap is left out, since the crate has only words for it.
+/// What a walk has said, in two numbers: the records and gaps, each with its places and what every side says of it; and
+/// the refusals of the gaps, for which the crate has only words.
 #[derive(Default)]
-struct Said(u64);
+struct Said {
+    sum: u64,
+    refusals: u64,
+}
+
+/// A record's offsets and the fields of its header.
+struct Record {
+    start: u64,
+    body: u64,
+    end: u64,
+    timestamp: u64,
+    kind: u64,
+    subtype: u64,
+    micros: u64,
+}
 
 impl Said {
     #[inline(always)]
-    fn record(&mut self, start: u64, end: u64, timestamp: u64, kind: u64, subtype: u64, micros: u64) {
-        let place = start ^ end << 20;
-        self.0 = self.0.wrapping_add(place ^ timestamp << 8 ^ kind << 40 ^ subtype << 48 ^ micros << 30);
+    fn record(&mut self, record: Record) {
+        let Record { start, body, end, timestamp, kind, subtype, micros } = record;
+        let place = start ^ body << 10 ^ end << 20;
+        self.sum = self.sum.wrapping_add(place ^ timestamp << 8 ^ kind << 40 ^ subtype << 48 ^ micros << 30);
     }
 
     #[inline(always)]
     fn gap(&mut self, start: u64, end: u64, evidence: u64, confirmed: u64) {
-        self.0 = self.0.wrapping_add((start << 3 ^ end << 24 ^ evidence << 50 ^ confirmed << 56).rotate_left(9));
+        let gap = start << 3 ^ end << 24 ^ evidence << 50 ^ confirmed << 56;
+        self.sum = self.sum.wrapping_add(gap.rotate_left(9));
     }
 
-    fn last(&mut self, at: u64) -> u64 {
-        self.0.wrapping_add(at.rotate_left(31))
+    fn refused(&mut self, start: u64, refusal: u64) {
+        self.refusals = self.refusals.wrapping_add((start + 1) * refusal);
+    }
+
+    /// The end, or where a scan's window was exhausted.
+    fn last(mut self, at: u64) -> Self {
+        self.sum = self.sum.wrapping_add(at.rotate_left(31));
+        self
     }
 }
 
 /// A walk over the whole stream by each side.
 pub fn walk<'a>(name: &str, stream: &'a [u8], window: usize, asked: u8) -> Work<'a> {
+    let (by_ours, by_expert) = (ours(stream, window, asked), expert(stream, window, asked));
+    assert_eq!(by_ours.refusals, by_expert.refusals, "{name}: the refusals of the gaps");
     Work {
         name: name.to_string(),
-        by_crate: Some(Box::new(move || by_crate(stream, window, asked))),
-        expert: Box::new(move || expert(stream, window, asked)),
-        ours: Box::new(move || ours(stream, window, asked)),
+        by_crate: Some(Box::new(move || by_crate(stream, window, asked).sum)),
+        expert: Box::new(move || expert(stream, window, asked).sum),
+        ours: Box::new(move || ours(stream, window, asked).sum),
     }
 }
 
-fn ours(stream: &[u8], window: usize, asked: u8) -> u64 {
+fn ours(stream: &[u8], window: usize, asked: u8) -> Said {
     let mut said = Said::default();
     let (mut walk, mut out) = ([0; 2], [0; 10]);
     loop {
         exports::next(stream, &mut walk, window, asked, &mut out);
-        let [answer, start, a, b, c, d, _, micros, _, end] = out;
+        let [answer, start, a, b, c, d, _, micros, body, end] = out;
         match answer {
-            1 => said.record(start, end, a, b, c, micros),
-            2 => said.gap(start, a, c, d),
-            _ => return said.last(start),
+            1 => said.record(Record { start, body, end, timestamp: a, kind: b, subtype: c, micros }),
+            2 => {
+                said.gap(start, a, c, d);
+                said.refused(start, b);
+            }
+            3 => return said.last(start),
+            _ => {
+                said.refused(start, b);
+                return said.last(start);
+            }
         }
     }
 }
 
-fn expert(stream: &[u8], window: usize, asked: u8) -> u64 {
+fn expert(stream: &[u8], window: usize, asked: u8) -> Said {
     let mut said = Said::default();
     let mut walk = Walk::new(stream, window, asked);
     loop {
         match walk.next() {
-            Answer::Record { start, record } => {
-                let header = record.header;
-                let (timestamp, micros) = (u64::from(header.timestamp), u64::from(header.micros));
-                let (kind, subtype) = (u64::from(header.kind), u64::from(header.subtype));
-                said.record(start as u64, record.end as u64, timestamp, kind, subtype, micros);
-            }
-            Answer::Gap { start, end, evidence, confirmed, .. } => {
+            Answer::Record { start, record } => said.record(by_header(start as u64, record)),
+            Answer::Gap { start, end, refusal, evidence, confirmed } => {
                 said.gap(start as u64, end as u64, u64::from(evidence), u64::from(confirmed));
+                said.refused(start as u64, u64::from(refusal));
             }
-            Answer::End(at) | Answer::Window { start: at, .. } => return said.last(at as u64),
+            Answer::End(at) => return said.last(at as u64),
+            Answer::Window { start, refusal } => {
+                said.refused(start as u64, u64::from(refusal));
+                return said.last(start as u64);
+            }
         }
     }
 }
 
-fn by_crate(stream: &[u8], window: usize, asked: u8) -> u64 {
+#[inline(always)]
+fn by_header(start: u64, record: record::Record) -> Record {
+    let header = record.header;
+    Record {
+        start,
+        body: record.body as u64,
+        end: record.end as u64,
+        timestamp: u64::from(header.timestamp),
+        kind: u64::from(header.kind),
+        subtype: u64::from(header.subtype),
+        micros: u64::from(header.micros),
+    }
+}
+
+fn by_crate(stream: &[u8], window: usize, asked: u8) -> Said {
     let mut said = Said::default();
     let mut at = 0;
     for event in crate_walk(stream, window, asked) {
         match event {
-            Ok(RecoveryEvent::Item(record)) => at = of_crate(&mut said, at, &record.common_header),
+            Ok(RecoveryEvent::Item(record)) => {
+                let record = of_crate(at, &record.common_header);
+                at = record.end;
+                said.record(record);
+            }
             Ok(RecoveryEvent::Gap(gap)) => {
                 let evidence = mrt_oracle::oracle::evidence_number(gap.evidence);
                 said.gap(gap.start_offset, gap.end_offset, u64::from(evidence), u64::from(gap.confirmed_records));
@@ -94,12 +144,16 @@ fn crate_walk(stream: &[u8], window: usize, asked: u8) -> RecoveringRecordIterat
     BgpkitParser::from_reader(stream).into_recovering_record_iter(config)
 }
 
-/// The crate hands out no offsets: a record starts where the answer before it ended. Answers where it ends.
-fn of_crate(said: &mut Said, start: u64, header: &CommonHeader) -> u64 {
-    let size = if header.microsecond_timestamp.is_some() { 16 } else { 12 };
-    let end = start + size + u64::from(header.length);
-    let micros = u64::from(header.microsecond_timestamp.unwrap_or(0));
-    let (kind, subtype) = (header.entry_type as u64, u64::from(header.entry_subtype));
-    said.record(start, end, u64::from(header.timestamp), kind, subtype, micros);
-    end
+/// The crate hands out no offsets: a record starts where the answer before it ended.
+fn of_crate(start: u64, header: &CommonHeader) -> Record {
+    let body = start + if header.microsecond_timestamp.is_some() { 16 } else { 12 };
+    Record {
+        start,
+        body,
+        end: body + u64::from(header.length),
+        timestamp: u64::from(header.timestamp),
+        kind: header.entry_type as u64,
+        subtype: u64::from(header.entry_subtype),
+        micros: u64::from(header.microsecond_timestamp.unwrap_or(0)),
+    }
 }
