@@ -5,11 +5,11 @@ pub mod answers;
 pub mod campaigns;
 pub mod compare;
 pub mod damage;
+#[cfg(proved)]
+pub mod exports;
 pub mod known;
 pub mod make;
 pub mod oracle;
-#[cfg(proved)]
-pub mod exports;
 #[cfg(proved)]
 pub mod proved;
 pub mod question;
