@@ -158,6 +158,12 @@ module _ (s : List ℕ) (p : ℕ) where
   unfolding candidateAt candidate header headed past over _>>=_
   candidate-near l = simp (lt-leb (p + 12) (length s) l)
 
+  -- the type by its two octets
+  type-octets : getD s (p + 4) 0 * 256 + getD s (p + 5) 0 ≡ beAt s (p + 4) 2
+  type-octets =
+      let f : p + 4 + 1 ≡ p + 5 = omega arith in
+      rw f at (be-halves s (p + 4) 1 1 (be-one s (p + 4)) (be-one s (p + 4 + 1)))
+
   module _ (l : p ≤ length s) where
     -- a header that begins no candidate
     not-begun : begins (over (drop p s) header) ≡ false → fails ≡ over s (candidateAt p)
@@ -175,8 +181,16 @@ module _ (s : List ℕ) (p : ℕ) where
     -- a type of 256 or more is of no family
     pub candidate-high : (getD s (p + 4) 0 ≡ 0 → ⊥) → fails ≡ over s (candidateAt p)
     candidate-high h =
-        let e : getD s (p + 4) 0 * 256 ^ 1 + getD s (p + 4 + 1) 0 ≡ beAt s (p + 4) 2 = be-halves s (p + 4) 1 1 (be-one s (p + 4)) (be-one s (p + 4 + 1)) in
+        let e = type-octets in
         candidate-other refl (family-rest (beAt s (p + 4) 2) (λ z. omega arith) (λ z. omega arith) (λ z. omega arith)) refl
+
+    -- nor is any other below it
+    pub candidate-low : getD s (p + 4) 0 ≡ 0 → (getD s (p + 5) 0 ≡ 5 → ⊥) → (16 ≤ getD s (p + 5) 0 → getD s (p + 5) 0 ≤ 17 → ⊥)
+        → fails ≡ over s (candidateAt p)
+    candidate-low h a b =
+        let e = type-octets in
+        candidate-other refl
+        (family-rest (beAt s (p + 4) 2) (λ z. a (omega arith)) (λ z. b (omega arith) (omega arith)) (λ z. b (omega arith) (omega arith))) refl
 
     -- a wire length that no candidate has
     pub candidate-long : {w : ℕ} → w ≡ beAt s (p + 8) 4 → 65603 < w → fails ≡ over s (candidateAt p)

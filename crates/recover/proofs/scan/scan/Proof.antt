@@ -5,8 +5,7 @@ use native.Mathlib.Omega.{arith}
 use borrow.Author.Needs.{needs}
 use Rattle.walk.specs.Step.{row, rowFrom}
 use Rattle.rules.specs.Ask.{over}
-use Rattle.judge.proofs.Candidates.{candidate-high}
-use Rattle.recover.proofs.Scans.{scan-reached}
+use Rattle.recover.proofs.Scans.{scan-reached, left-over}
 use Rattle.judge.specs.Candidate.{candidateAt, candidacy}
 use mathlib.Core.Path.{_≡_, sym, _∙_, ap, refl}
 use Rattle.walk.proofs.Turns.{Left, scan-starts, scan-looks, scan-turned, scan-left, row-fails, row-first, row-whole, row-breaks, row-parts, row-goes}
@@ -34,32 +33,21 @@ reach-requires c κs = search needs
 distance-holds : tie.Need-distance-holds Inv-loop μ-loop Inv-distance μ-distance
 distance-holds c = (omega arith, c .reach .ensures, scan-starts candidateAt _ _ _ _)
 
+pass-over-requires : tie.Need-pass-over-requires Inv-loop μ-loop Inv-distance μ-distance
+pass-over-requires c κs = (c .distance .inv .0, omega arith)
+
 returns : tie.Need-returns Inv-loop μ-loop Inv-distance μ-distance
-returns c = scan-reached _ _ _ _ _ (omega arith) (omega arith) (c .before .distance .inv .2)
+returns c =
+    let at-pass = c .before in
+    let at-distance = at-pass .before in
+    scan-reached _ _ _ _ _ (omega arith) (omega arith)
+    (left-over _ _ _ _ _ _ (at-pass .pass-over .ensures .0) (omega arith) (at-distance .distance .inv .2) (at-pass .pass-over .ensures .2))
 
 add-d : tie.Need-add-d Inv-loop μ-loop Inv-distance μ-distance
 add-d c = omega arith
 
 add-offset : tie.Need-add-offset Inv-loop μ-loop Inv-distance μ-distance
 add-offset c = omega arith
-
-add-if2 : tie.Need-add-if2 Inv-loop μ-loop Inv-distance μ-distance
-add-if2 c = omega arith
-
-shared-slice-read-if2 : tie.Need-shared-slice-read-if2 Inv-loop μ-loop Inv-distance μ-distance
-shared-slice-read-if2 c = omega arith
-
-distance-less : tie.Need-distance-less Inv-loop μ-loop Inv-distance μ-distance
-distance-less c = omega arith
-
-distance-again : tie.Need-distance-again Inv-loop μ-loop Inv-distance μ-distance
-distance-again c = (
-  omega arith,
-  c .before .before .before .distance .inv .1,
-  scan-turned candidateAt _ _ _ _ _ _ refl
-      (scan-looks candidateAt _ _ _ _ _ (omega arith) (c .before .before .before .distance .inv .2))
-      (row-fails candidateAt _ _ _ (sym (candidate-high _ _ (omega arith) (c .if2 .taken)))),
-)
 
 candidate-at-requires : tie.Need-candidate-at-requires Inv-loop μ-loop Inv-distance μ-distance
 candidate-at-requires c κs = search needs
@@ -70,16 +58,18 @@ enum-known-first c = search needs
 enum-told : tie.Need-enum-told Inv-loop μ-loop Inv-distance μ-distance
 enum-told c = search needs
 
-distance-less-2 : tie.Need-distance-less-2 Inv-loop μ-loop Inv-distance μ-distance
-distance-less-2 c = omega arith
+distance-less : tie.Need-distance-less Inv-loop μ-loop Inv-distance μ-distance
+distance-less c = omega arith
 
-distance-again-2 : tie.Need-distance-again-2 Inv-loop μ-loop Inv-distance μ-distance
-distance-again-2 c =
-    let at-distance = c .before .before .before .before .before .before in (
+distance-again : tie.Need-distance-again Inv-loop μ-loop Inv-distance μ-distance
+distance-again c =
+    let at-pass = c .before .before .before .before in
+    let at-distance = at-pass .before in
+    let there = left-over _ _ _ _ _ _ (at-pass .pass-over .ensures .0) (omega arith) (at-distance .distance .inv .2) (at-pass .pass-over .ensures .2) in (
       omega arith,
       at-distance .distance .inv .1,
       scan-turned candidateAt _ _ _ _ _ _ refl
-          (scan-looks candidateAt _ _ _ _ _ (omega arith) (at-distance .distance .inv .2))
+          (scan-looks candidateAt _ _ _ _ _ (omega arith) there)
           (row-fails candidateAt _ _ _ (sym (c .before .before .candidate-at .ensures) ∙ ap candidacy (c .enum-told .given .1))),
     )
 
@@ -99,36 +89,40 @@ enum-known-next c = search needs
 enum-told-2 : tie.Need-enum-told-2 Inv-loop μ-loop Inv-distance μ-distance
 enum-told-2 c = search needs
 
-distance-less-3 : tie.Need-distance-less-3 Inv-loop μ-loop Inv-distance μ-distance
-distance-less-3 c = omega arith
+distance-less-2 : tie.Need-distance-less-2 Inv-loop μ-loop Inv-distance μ-distance
+distance-less-2 c = omega arith
 
-distance-again-3 : tie.Need-distance-again-3 Inv-loop μ-loop Inv-distance μ-distance
-distance-again-3 c =
-    let at-distance = c .before .before .before .before .before .before .before .before .before .before .before .before in (
+distance-again-2 : tie.Need-distance-again-2 Inv-loop μ-loop Inv-distance μ-distance
+distance-again-2 c =
+    let at-pass = c .before .before .before .before .before .before .before .before .before .before in
+    let at-distance = at-pass .before in
+    let there = left-over _ _ _ _ _ _ (at-pass .pass-over .ensures .0) (omega arith) (at-distance .distance .inv .2) (at-pass .pass-over .ensures .2) in (
       omega arith,
       at-distance .distance .inv .1,
       scan-turned candidateAt _ _ _ _ _ _ refl
-          (scan-looks candidateAt _ _ _ _ _ (omega arith) (at-distance .distance .inv .2))
+          (scan-looks candidateAt _ _ _ _ _ (omega arith) there)
           (c .before .before .before .before .loop .inv .1
           ∙ row-breaks candidateAt _ _ _ _ _ _ (c .before .before .before .loop-test .taken)
           (sym (c .before .before .candidate-at2 .ensures) ∙ ap candidacy (c .enum-told2 .given .1))),
     )
 
-distance-less-4 : tie.Need-distance-less-4 Inv-loop μ-loop Inv-distance μ-distance
-distance-less-4 c = omega arith
+distance-less-3 : tie.Need-distance-less-3 Inv-loop μ-loop Inv-distance μ-distance
+distance-less-3 c = omega arith
 
-distance-again-4 : tie.Need-distance-again-4 Inv-loop μ-loop Inv-distance μ-distance
-distance-again-4 c =
-    let at-if1 = c .before .before .before .before .before .before .before .before .before .before .before .before .before in
-    let at-distance = at-if1 .before in
-    let at-next = c .before .before in (
+distance-again-3 : tie.Need-distance-again-3 Inv-loop μ-loop Inv-distance μ-distance
+distance-again-3 c =
+    let at-next = c .before .before in
+    let at-if1 = c .before .before .before .before .before .before .before .before .before .before .before in
+    let at-pass = at-if1 .before in
+    let at-distance = at-pass .before in
+    let there = left-over _ _ _ _ _ _ (at-pass .pass-over .ensures .0) (omega (arith, at-if1 .if1 .left, at-distance .distance .inv .1)) (at-distance .distance .inv .2) (at-pass .pass-over .ensures .2) in (
       omega (arith, at-if1 .if1 .left, at-distance .distance .inv .1),
       at-distance .distance .inv .1,
       scan-turned candidateAt _ _ _ _ _ _ refl
-          (scan-looks candidateAt _ _ _ _ _ (omega (arith, at-if1 .if1 .left, at-distance .distance .inv .1)) (at-distance .distance .inv .2))
+          (scan-looks candidateAt _ _ _ _ _ (omega (arith, at-if1 .if1 .left, at-distance .distance .inv .1)) there)
           (at-next .before .before .before .before .loop .inv .1
           ∙ row-parts candidateAt _ _ _ _ _ _ (at-next .before .before .before .loop-test .taken)
-          (sym (at-next .before .before .candidate-at2 .ensures) ∙ ap candidacy (at-next .next .given .1)) (c .if3 .taken)),
+          (sym (at-next .before .before .candidate-at2 .ensures) ∙ ap candidacy (at-next .next .given .1)) (c .if2 .taken)),
     )
 
 add-i : tie.Need-add-i Inv-loop μ-loop Inv-distance μ-distance
@@ -143,13 +137,15 @@ loop-again c =
       omega arith,
       at-next .before .before .before .before .loop .inv .1
           ∙ row-goes candidateAt _ _ _ _ _ _ (at-next .before .before .before .loop-test .taken)
-          (sym (at-next .before .before .candidate-at2 .ensures) ∙ ap candidacy (at-next .next .given .1)) (c .if3 .left),
+          (sym (at-next .before .before .candidate-at2 .ensures) ∙ ap candidacy (at-next .next .given .1)) (c .if2 .left),
     )
 
 returns-2 : tie.Need-returns-2 Inv-loop μ-loop Inv-distance μ-distance
 returns-2 c =
-    let at-distance = c .before .before .before .before .before .before .before .before .before in
-    scan-left candidateAt _ _ _ _ _ _ (scan-looks candidateAt _ _ _ _ _ (omega arith) (at-distance .distance .inv .2))
+    let at-pass = c .before .before .before .before .before .before .before in
+    let at-distance = at-pass .before in
+    let there = left-over _ _ _ _ _ _ (at-pass .pass-over .ensures .0) (omega arith) (at-distance .distance .inv .2) (at-pass .pass-over .ensures .2) in
+    scan-left candidateAt _ _ _ _ _ _ (scan-looks candidateAt _ _ _ _ _ (omega arith) there)
     (c .before .loop .inv .1 ∙ row-whole candidateAt _ _ _ _ _ _ (c .loop-test .left))
 
 pub scan-spec : {M : Type 1} → statement M
@@ -163,26 +159,23 @@ scan-spec =
     sub-reach
     reach-requires
     distance-holds
+    pass-over-requires
     returns
     add-d
     add-offset
-    add-if2
-    shared-slice-read-if2
-    distance-less
-    distance-again
     candidate-at-requires
     enum-known-first
     enum-told
-    distance-less-2
-    distance-again-2
+    distance-less
+    distance-again
     loop-holds
     candidate-at-requires-2
     enum-known-next
     enum-told-2
+    distance-less-2
+    distance-again-2
     distance-less-3
     distance-again-3
-    distance-less-4
-    distance-again-4
     add-i
     loop-less
     loop-again
