@@ -80,6 +80,17 @@ pub frame-ok : (at : ℕ) → Meets (FrameOk at) false 0 (frame at)
 unfolding frame
 frame-ok at = meets-bind (FrameOk at) HeaderOk (framed at) (framed-ok at) false 0 header header-ok
 
+-- a record that is framed has the header that was read
+pub framed-head : (s : List ℕ) (at : ℕ) (h : Heading) → over s (framed at h) .head .number ≡ 0 → over s (framed at h) .head ≡ h
+unfolding framed over
+framed-head s at h = by-tests (eqb (h .number) 0) (leb (size (h .kind) + h .stored) (length s)) refl refl
+  where
+    by-tests : (t l : Bool) → eqb (h .number) 0 ≡ t → leb (size (h .kind) + h .stored) (length s) ≡ l
+        → over s (framed at h) .head .number ≡ 0 → over s (framed at h) .head ≡ h
+    by-tests true true p q z = rw (p, q)
+    by-tests true false p q z = absurd (let y : _≡_ {A = ℕ} 4 0 = rw (p, q) at z in omega arith)
+    by-tests false l p q z = absurd (eqb-false (h .number) 0 p (rw p at z))
+
 module _ (s : List ℕ) (at : ℕ) where
   -- the frame by the header that was read
   frame-within : at ≤ length s → over (drop at s) (framed at (headerAt s at)) ≡ frameAt s at

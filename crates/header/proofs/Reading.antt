@@ -1,5 +1,5 @@
 -- What the reader's definition is in each of its cases.
-use Prim.Native.Nat.{ℕ, _-_, _<_, _≤_}
+use Prim.Native.Nat.{ℕ, _+_, _-_, _<_, _≤_}
 use mathlib.Core.Path.{_≡_, refl, _∙_, ap}
 use mathlib.Core.Bool.{Bool, true, false}
 use mathlib.Core.List.{List}
@@ -84,3 +84,11 @@ header-kind s z = by-shape (over s header) (shape s z)
     by-shape : (h : Heading) → Shape s h → h .kind ≡ beAt s 4 2
     by-shape h (plain l n e) = refl
     by-shape h (extended l n e g) = refl
+
+-- the stored length is the wire length, or four less
+pub header-stored : (s : List ℕ) → over s header .number ≡ 0 → beAt s 8 4 ≤ over s header .stored + 4
+header-stored s z = by-shape (over s header) (shape s z)
+  where
+    by-shape : (h : Heading) → Shape s h → beAt s 8 4 ≤ h .stored + 4
+    by-shape h (plain l n e) = omega arith
+    by-shape h (extended l n e g) = omega arith

@@ -2,13 +2,12 @@
 ghost use mathlib.Core.Path.{_≡_};
 ghost use Rattle.rules.specs.Ask.{over};
 ghost use Rattle.judge.specs.Record.{judged};
-ghost use Rattle.judge.specs.Candidate.{candidacy, candidateAt, family, evidence, plausible, standing};
+ghost use Rattle.judge.specs.Candidate.{candidacy, candidateAt, family, evidence, plausible, takenUp};
 use crate::CandidateAnswer;
 use crate::Verdict;
 use crate::record::judge_at;
 use answer::Outcome;
 use header::CommonHeader;
-use header::HeaderAnswer;
 
 pub fn candidate_at(s: &[u8], at: usize) -> CandidateAnswer
     ensures answer { λ r. ⌜ candidacy r ≡ over (now (s .entry)) (candidateAt at) ⌝ }
@@ -24,18 +23,16 @@ pub fn candidate_at(s: &[u8], at: usize) -> CandidateAnswer
     if family_of(octets::be16(s, at + 4)) == 0 {
         return CandidateAnswer::Fails;
     }
-    let HeaderAnswer::Read { header, wire: _ } = header::read_header(s, at) else {
-        return CandidateAnswer::Fails;
-    };
-    if !is_plausible(header) {
+    // Of the others most fail here: no candidate has such a length.
+    if 65603 < octets::be32(s, at + 8) {
         return CandidateAnswer::Fails;
     }
     taken_up(judge_at(s, at))
 }
 
-// A record that passes, as a candidate.
+// A record that passes and whose header allows it, as a candidate.
 fn taken_up(v: Verdict) -> CandidateAnswer
-    ensures { λ r. ⌜ candidacy r ≡ standing (judged v) ⌝ }
+    ensures { λ r. ⌜ candidacy r ≡ takenUp (judged v) ⌝ }
 {
     match v {
         Verdict::Cut(_) => CandidateAnswer::Fails,
@@ -45,11 +42,16 @@ fn taken_up(v: Verdict) -> CandidateAnswer
             wire: _,
             body: _,
             end,
-        } => CandidateAnswer::Stands {
-            family: family_of(header.kind),
-            evidence: evidence_of(header.kind, header.subtype),
-            end,
-        },
+        } => {
+            if !is_plausible(header) {
+                return CandidateAnswer::Fails;
+            }
+            CandidateAnswer::Stands {
+                family: family_of(header.kind),
+                evidence: evidence_of(header.kind, header.subtype),
+                end,
+            }
+        }
     }
 }
 

@@ -1,9 +1,11 @@
 // The scan for a place to take up again.
 ghost use mathlib.Core.Path.{_≡_};
-ghost use Prim.Native.Nat.{suc, _≤_};
+ghost use mathlib.Core.Bool.{false};
+ghost use Prim.Native.Nat.{ℕ, suc, _+_, _-_, _<_, _≤_, min};
 ghost use lib.ListN.{length};
 ghost use Rattle.rules.specs.Ask.{over};
 ghost use Rattle.walk.specs.Step.{scan as scanRule};
+ghost use Rattle.walk.specs.Judged.{fails};
 ghost use Rattle.judge.specs.Candidate.{candidateAt};
 ghost use Rattle.recover.specs.Answers.{sighted};
 use crate::Found;
@@ -14,13 +16,11 @@ pub(crate) fn scan(s: &[u8], p: usize, window: usize, more: u8) -> Found
     requires { ⌜ p ≤ length (now s) ⌝ }
     ensures { λ r. ⌜ sighted r ≡ over (now (s .entry)) (scanRule candidateAt more (suc p) window) ⌝ }
 {
-    let n = s.len();
+    let last = reach(s.len() - p, window);
     let mut d: usize = 0;
     'distance: loop {
-        if d == window {
-            return Found::Nowhere;
-        }
-        if n - p <= d {
+        d = pass_over(s, p, d, last);
+        if last <= d {
             return Found::Nowhere;
         }
         d += 1;
@@ -54,4 +54,56 @@ pub(crate) fn scan(s: &[u8], p: usize, window: usize, more: u8) -> Found
         }
         return Found::At { offset, evidence };
     }
+}
+
+// The last distance that a scan looks at, where so many octets are left: no header has room beyond it.
+fn reach(left: usize, window: usize) -> usize
+    ensures { λ r. ⌜ r ≡ min window (left - 12) ⌝ }
+{
+    if left < 12 {
+        return 0;
+    }
+    if left - 12 < window {
+        return left - 12;
+    }
+    window
+}
+
+// The distance after which the next one may begin a candidate, or the last one.
+fn pass_over(s: &[u8], p: usize, from: usize, last: usize) -> usize
+    requires { ⌜ (from ≤ last) × (last ≤ length (now s) - p - 12) ⌝ }
+    ensures { λ r. ⌜ (from ≤ r) × (r ≤ last) × ((e : ℕ) → from < e → e ≤ r → fails ≡ over (now (s .entry)) (candidateAt (p + e))) ⌝ }
+{
+    let mut d = from;
+    while d < last {
+        if may_begin(s, p + (d + 1)) {
+            return d;
+        }
+        d += 1;
+    }
+    d
+}
+
+// Whether a candidate may begin at an offset. Most fail after one octet: a type of a family is below 256.
+fn may_begin(s: &[u8], at: usize) -> bool
+    requires { ⌜ at + 12 ≤ length (now s) ⌝ }
+    ensures { λ r. ⌜ (r ≡ false → fails ≡ over (now (s .entry)) (candidateAt at)) ⌝ }
+{
+    if s[at + 4] != 0 {
+        return false;
+    }
+    if 65603 < octets::be32(s, at + 8) {
+        return false;
+    }
+    let low = s[at + 5];
+    if low == 5 {
+        return true;
+    }
+    if low < 16 {
+        return false;
+    }
+    if 17 < low {
+        return false;
+    }
+    true
 }
