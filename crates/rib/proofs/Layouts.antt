@@ -1,9 +1,9 @@
 -- What a subtype decides: two neighbours at a time, and the path number's two sizes.
 use Prim.Native.Nat.{ℕ, suc, _<_, _≤_}
-use mathlib.Core.Path.{_≡_, refl, subst}
+use mathlib.Core.Path.{_≡_, refl, sym, subst}
 use mathlib.Core.Bool.{Bool, true, false, cond}
 use native.Mathlib.Omega.{arith}
-use lib.Dec.{ltb}
+use lib.Dec.{ltb, eqb}
 use borrow.Author.Tests.{ltb-true, ltb-false, ne-eqb}
 use Rattle.rib.specs.Layout.{ipv4, ipv6, pathed, carried, mostBits, pathSize, layoutOf}
 
@@ -49,6 +49,30 @@ path-size-le t = by-test (pathed t)
     by-test : (b : Bool) → cond b 4 0 ≤ 4
     by-test true = omega arith
     by-test false = omega arith
+
+-- a size that is no octets or four
+module _ {p : ℕ} (e : cond (eqb p 0) 0 4 ≡ p) where
+  pub sized-le : p ≤ 4
+  sized-le = by-test (eqb p 0) e
+    where
+      by-test : (b : Bool) → cond b 0 4 ≡ p → p ≤ 4
+      by-test true h = omega arith
+      by-test false h = omega arith
+
+  pub sized-four : (p ≡ 0 → ⊥) → 4 ≡ p
+  sized-four z = by-test (eqb p 0) e
+    where
+      by-test : (b : Bool) → cond b 0 4 ≡ p → 4 ≡ p
+      by-test true h = absurd (z (sym h))
+      by-test false h = h
+
+pub path-sized : (t : ℕ) {n : ℕ} → n ≡ pathSize t → cond (eqb n 0) 0 4 ≡ n
+unfolding pathSize
+path-sized t {n} e = rw e (by-test (pathed t))
+  where
+    by-test : (b : Bool) → _≡_ {A = ℕ} (cond (eqb (cond b 4 0) 0) 0 4) (cond b 4 0)
+    by-test true = refl
+    by-test false = refl
 
 -- no prefix has more bits than an address
 pub most-bits-le : (t : ℕ) → mostBits t ≤ 128

@@ -16,6 +16,13 @@ use Rattle.rib.specs.declared.EntryAnswer.the-variants.{Read, Refused}
 use Rattle.rib.specs.Entry.{Entered, noEntry, attributesAt, entryEnd, fits, entryHere, entryValues, passed}
 use Rattle.answer.proofs.Refusals.{number-refusal}
 
+-- the same entries by the same size of a path number
+pub here-sized : (s : List ℕ) (at : ℕ) {p q : ℕ} → q ≡ p → entryHere q s at ≡ entryHere p s at
+here-sized s at e = ap (λ (x : ℕ). entryHere x s at) e
+
+pub passed-sized : (s : List ℕ) (at left : ℕ) {p q : ℕ} → q ≡ p → passed q s at left ≡ passed p s at left
+passed-sized s at left e = ap (λ (x : ℕ). passed x s at left) e
+
 module _ (p : ℕ) (s : List ℕ) (at : ℕ) where
   fits-not : length s < entryEnd p s at → fits p s at ≡ false
   unfolding fits

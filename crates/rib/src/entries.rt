@@ -1,6 +1,8 @@
 // The entries of a body, by number and by a cursor.
 ghost use mathlib.Core.Path.{_≡_};
+ghost use mathlib.Core.Bool.{cond};
 ghost use Prim.Native.Nat.{_-_};
+ghost use lib.Dec.{eqb};
 ghost use Rattle.octets.specs.Octets.{beAt, part};
 ghost use Rattle.rib.specs.Layout.{pathSize};
 ghost use Rattle.rib.specs.Entry.{passed, entryHere, entryValues, entryOf, cursorValues, firstOf, afterOf, nextValues, nextOf};
@@ -33,7 +35,8 @@ pub fn entry_at(body: &[u8], subtype: u16, i: usize) -> EntryAnswer
                     left: i as u16,
                 },
             );
-            read_entry(body, subtype, c.at)
+            let l = layout_of(subtype);
+            read_entry(body, l.path, c.at)
         }
     }
 }
@@ -76,7 +79,7 @@ pub fn next_entry(body: &[u8], subtype: u16, c: Cursor) -> NextAnswer
     if left == 0 {
         return NextAnswer::End;
     }
-    match read_entry(body, subtype, c.at) {
+    match read_entry(body, l.path, c.at) {
         EntryAnswer::Refused(_) => NextAnswer::End,
         EntryAnswer::Read(entry) => NextAnswer::Entry {
             entry,
@@ -111,10 +114,11 @@ pub fn attributes(body: &[u8], e: Entry) -> &[u8]
 pub(crate) fn pass_entries(body: &[u8], subtype: u16, c: Cursor) -> Cursor
     ensures { λ r. ⌜ r ≡ passed (pathSize subtype) (now (body .entry)) (c .at) (c .left) ⌝ }
 {
+    let l = layout_of(subtype);
     let mut at = c.at;
     let mut left = c.left;
     while 0 < left {
-        match read_entry(body, subtype, at) {
+        match read_entry(body, l.path, at) {
             EntryAnswer::Refused(_) => return Cursor { at, left },
             EntryAnswer::Read(e) => {
                 at = e.end;
@@ -125,16 +129,16 @@ pub(crate) fn pass_entries(body: &[u8], subtype: u16, c: Cursor) -> Cursor
     Cursor { at, left }
 }
 
-// The entry that starts at an offset, or 8 where it does not fit.
-fn read_entry(body: &[u8], subtype: u16, at: usize) -> EntryAnswer
-    ensures { λ r. ⌜ entryValues r ≡ entryHere (pathSize subtype) (now (body .entry)) at ⌝ }
+// The entry that starts at an offset, or 8 where it does not fit. Path numbers take 0 octets or 4.
+fn read_entry(body: &[u8], path: usize, at: usize) -> EntryAnswer
+    requires { ⌜ cond (eqb path 0) 0 4 ≡ path ⌝ }
+    ensures { λ r. ⌜ entryValues r ≡ entryHere path (now (body .entry)) at ⌝ }
 {
     let n = body.len();
     if n < at {
         return EntryAnswer::Refused(Refusal::Beyond);
     }
-    let l = layout_of(subtype);
-    let size = 8 + l.path;
+    let size = 8 + path;
     if n - at < size {
         return EntryAnswer::Refused(Refusal::Beyond);
     }
@@ -146,18 +150,18 @@ fn read_entry(body: &[u8], subtype: u16, at: usize) -> EntryAnswer
     EntryAnswer::Read(Entry {
         peer: octets::be16(body, at),
         originated: octets::be32(body, at + 2),
-        path: path_number(body, subtype, at + 6),
+        path: path_number(body, path, at + 6),
         start,
         end: start + length,
     })
 }
 
-// The path number at an offset, 0 where the subtype has none.
-fn path_number(body: &[u8], subtype: u16, at: usize) -> u32
-    ensures { λ r. ⌜ r ≡ beAt (now (body .entry)) at (pathSize subtype) ⌝ }
+// The path number at an offset, 0 where it takes no octets.
+fn path_number(body: &[u8], path: usize, at: usize) -> u32
+    requires { ⌜ cond (eqb path 0) 0 4 ≡ path ⌝ }
+    ensures { λ r. ⌜ r ≡ beAt (now (body .entry)) at path ⌝ }
 {
-    let l = layout_of(subtype);
-    if l.path == 0 {
+    if path == 0 {
         return 0;
     }
     octets::be32(body, at)

@@ -1,7 +1,9 @@
+use mathlib.Core.Path.{_∙_}
 use borrow.Author.Needs.{needs}
 use Rattle.rib.proofs.Steps.{next-other, next-none, next-short, next-handed}
-use Rattle.rib.proofs.Passing.{here-unfit}
-use Rattle.rib.proofs.Heads.{carried-not, carried-so}
+use Rattle.rib.proofs.Passing.{here-unfit, here-sized}
+use Rattle.rib.proofs.Layouts.{path-sized}
+use Rattle.rib.proofs.Heads.{carried-not, carried-so, path-of}
 use Rattle.rib.proofs.entries.next_entry.Statement.{statement}
 use Rattle.rib.proofs.entries.next_entry.Tie as tie
 
@@ -17,7 +19,7 @@ returns-2 c =
     next-none _ _ _ (carried-so _ (at-layout-of .layout-of .ensures) (c .before .if1 .left)) (c .if2 .taken)
 
 read-entry-requires : tie.Need-read-entry-requires
-read-entry-requires c κs = search needs
+read-entry-requires c κs = path-sized _ (path-of _ (c .before .before .before .layout-of .ensures))
 
 enum-told : tie.Need-enum-told
 enum-told c = search needs
@@ -36,7 +38,7 @@ returns-3 c =
     let at-layout-of = at-if1 .before .before in
     next-short _ _ _
     (carried-so _ (at-layout-of .layout-of .ensures) (at-if1 .if1 .left)) (at-if2 .if2 .left)
-    (here-unfit _ _ _ _ (at-read-entry .read-entry .ensures) (c .enum-told .given .1))
+    (here-unfit _ _ _ _ (at-read-entry .read-entry .ensures ∙ here-sized _ _ (path-of _ (at-layout-of .layout-of .ensures))) (c .enum-told .given .1))
 
 returns-4 : tie.Need-returns-4
 returns-4 c =
@@ -46,7 +48,7 @@ returns-4 c =
     let at-layout-of = at-if1 .before .before in
     next-handed _ _ _
     (carried-so _ (at-layout-of .layout-of .ensures) (at-if1 .if1 .left)) (at-if2 .if2 .left) _
-    (at-read-entry .read-entry .ensures) (c .before .entry .given .1)
+    (at-read-entry .read-entry .ensures ∙ here-sized _ _ (path-of _ (at-layout-of .layout-of .ensures))) (c .before .entry .given .1)
 
 pub next-entry-spec : {M : Type 1} → statement M
 next-entry-spec =

@@ -1,23 +1,27 @@
 use mathlib.Core.Path.{_≡_, refl, sym, _∙_}
 use native.Mathlib.Omega.{arith}
 use borrow.Author.Needs.{needs}
-use Rattle.rib.specs.Layout.{pathSize}
 use Rattle.rib.specs.Entry.{passed}
-use Rattle.rib.proofs.Passing.{passed-read, passed-unread, passed-none}
+use Rattle.rib.proofs.Heads.{path-of}
+use Rattle.rib.proofs.Layouts.{path-sized}
+use Rattle.rib.proofs.Passing.{passed-read, passed-sized, passed-unread, passed-none}
 use Rattle.rib.proofs.entries.pass_entries.Statement.{statement}
 use Rattle.rib.proofs.entries.pass_entries.Tie as tie
 
 abbrev Inv-loop : tie.InvT-loop
-Inv-loop body subtype at₀ left₀ at left = passed (pathSize subtype) body at₀ left₀ ≡ passed (pathSize subtype) body at left
+Inv-loop body subtype l at₀ left₀ at left = passed (l .path) body at₀ left₀ ≡ passed (l .path) body at left
 
 abbrev μ-loop : tie.MeasureT-loop
-μ-loop body subtype at₀ left₀ at left = left
+μ-loop body subtype l at₀ left₀ at left = left
+
+layout-of-requires : tie.Need-layout-of-requires Inv-loop μ-loop
+layout-of-requires c κs = search needs
 
 loop-holds : tie.Need-loop-holds Inv-loop μ-loop
 loop-holds c = refl
 
 read-entry-requires : tie.Need-read-entry-requires Inv-loop μ-loop
-read-entry-requires c κs = tt
+read-entry-requires c κs = path-sized _ (path-of _ (c .before .before .layout-of .ensures))
 
 enum-told : tie.Need-enum-told Inv-loop μ-loop
 enum-told c = search needs
@@ -29,6 +33,7 @@ returns c =
     let at-loop = at-loop-test .before in
     passed-unread _ _ _ _ (at-loop-test .loop-test .taken) _ (at-read-entry .read-entry .ensures) (c .enum-told .given .1)
     ∙ sym (at-loop .loop .inv)
+    ∙ passed-sized _ _ _ (path-of _ (at-loop .before .layout-of .ensures))
 
 enum-known-e : tie.Need-enum-known-e Inv-loop μ-loop
 enum-known-e c = search needs
@@ -48,7 +53,9 @@ loop-again c =
     ∙ passed-read _ _ _ _ (at-loop-test .loop-test .taken) _ (at-read-entry .read-entry .ensures) (c .before .e .given .1)
 
 returns-2 : tie.Need-returns-2 Inv-loop μ-loop
-returns-2 c = passed-none _ _ _ _ (c .loop-test .left) ∙ sym (c .before .loop .inv)
+returns-2 c =
+    passed-none _ _ _ _ (c .loop-test .left) ∙ sym (c .before .loop .inv)
+    ∙ passed-sized _ _ _ (path-of _ (c .before .before .layout-of .ensures))
 
 pub pass-entries-spec : {M : Type 1} → statement M
 pass-entries-spec =
@@ -56,6 +63,7 @@ pass-entries-spec =
     (tie.spec
     Inv-loop
     μ-loop
+    layout-of-requires
     loop-holds
     read-entry-requires
     enum-told

@@ -2,24 +2,18 @@ use mathlib.Core.Path.{refl}
 use native.Mathlib.Omega.{arith}
 use borrow.Author.Needs.{needs}
 use Rattle.rib.proofs.Passing.{here-past, here-short, here-cut, here-read}
-use Rattle.rib.proofs.Layouts.{path-size-le}
-use Rattle.rib.proofs.Heads.{path-of}
+use Rattle.rib.proofs.Layouts.{sized-le}
 use Rattle.rib.proofs.entries.read_entry.Statement.{statement}
 use Rattle.rib.proofs.entries.read_entry.Tie as tie
 
 returns : tie.Need-returns
 returns c = here-past _ _ _ (c .if1 .taken)
 
-layout-of-requires : tie.Need-layout-of-requires
-layout-of-requires c κs = search needs
-
 add-size : tie.Need-add-size
-add-size c =
-    let at-start = c .before .before .before .before in
-    omega (arith, path-of _ (c .before .layout-of .ensures), path-size-le (at-start .args .subtype))
+add-size c = omega (arith, sized-le (c .before .before .pre))
 
 returns-2 : tie.Need-returns-2
-returns-2 c = here-short _ _ _ (path-of _ (c .before .before .layout-of .ensures)) (c .if2 .taken)
+returns-2 c = here-short _ _ _ refl (c .if2 .taken)
 
 add-start : tie.Need-add-start
 add-start c = search needs
@@ -38,8 +32,7 @@ sub-if3 c = search needs
 
 returns-3 : tie.Need-returns-3
 returns-3 c =
-    let at-layout-of = c .before .before .before .before in
-    here-cut _ _ _ (path-of _ (at-layout-of .layout-of .ensures)) refl (c .before .be16 .ensures) (c .if3 .taken)
+    here-cut _ _ _ refl refl (c .before .be16 .ensures) (c .if3 .taken)
 
 be16-requires-2 : tie.Need-be16-requires-2
 be16-requires-2 c κs = search needs
@@ -56,17 +49,16 @@ add-path-number c = search needs
 path-number-requires : tie.Need-path-number-requires
 path-number-requires c κs = search needs
 
-add-t18 : tie.Need-add-t18
-add-t18 c = search needs
+add-t17 : tie.Need-add-t17
+add-t17 c = search needs
 
 returns-4 : tie.Need-returns-4
 returns-4 c =
     let at-be162 = c .before .before in
     let at-if3 = at-be162 .before in
     let at-be16 = at-if3 .before in
-    let at-layout-of = at-be16 .before .before .before in
     here-read _ _ _
-    (path-of _ (at-layout-of .layout-of .ensures)) refl (at-be16 .be16 .ensures) (omega arith) (at-if3 .if3 .left)
+    refl refl (at-be16 .be16 .ensures) (omega arith) (at-if3 .if3 .left)
     (at-be162 .be162 .ensures) (c .before .be32 .ensures) (c .path-number .ensures)
 
 pub read-entry-spec : {M : Type 1} → statement M
@@ -74,7 +66,6 @@ read-entry-spec =
     tie.close
     (tie.spec
     returns
-    layout-of-requires
     add-size
     returns-2
     add-start
@@ -88,5 +79,5 @@ read-entry-spec =
     be32-requires
     add-path-number
     path-number-requires
-    add-t18
+    add-t17
     returns-4)
