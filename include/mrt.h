@@ -55,6 +55,23 @@ typedef struct mrt_written {
     uint32_t refusal;
 } mrt_written;
 
+/* What a lookup and an addition return: a refusal's number or 0, and the id of a peer, 0 where they have refused. */
+typedef struct mrt_found {
+    uint32_t refusal;
+    uint32_t id;
+} mrt_found;
+
+/*
+ * A peer, as the slots hold it, in 28 octets, of which the three after `type` mean nothing. Bit value 1 of `type` means an IPv6
+ * address, value 2 an AS of four octets. A four-octet address is the first four of `addr`.
+ */
+typedef struct mrt_peer {
+    uint8_t type;
+    uint32_t id;
+    uint8_t addr[16];
+    uint32_t asn;
+} mrt_peer;
+
 /*
  * The header at the offset `at` of the stream `s`.
  * Values: timestamp, type, subtype, wire length, stored length, microseconds. Refusals: 8, 1, 2, 3, 1, 9.
@@ -102,6 +119,37 @@ uint32_t mrt_next(const uint8_t *s, size_t s_len, uint64_t *walk, size_t walk_le
  * starts, where the last one ends. Refusals: 7, 9.
  */
 uint32_t mrt_check_peers(const uint8_t *body, size_t body_len, uint64_t *out, size_t out_len);
+
+/*
+ * The peers of a PEER_INDEX_TABLE in the first slots, one each, zeros after a four-octet address; later slots keep what they
+ * had. mrt_check_peers says how many there are. Refusals: 7, 9 (too few slots).
+ */
+uint32_t mrt_load_peers(const uint8_t *body, size_t body_len, mrt_peer *slots, size_t slots_len);
+
+/*
+ * The highest id among the first `count` slots that holds an address. Of `type` bit value 1 counts alone, of `addr` the first
+ * sixteen octets, or four where the type says IPv4. Refusals: 8 where `addr` has fewer than 16 octets, where `count` is above the
+ * slots or above 65,535, and where no slot holds the address.
+ */
+mrt_found mrt_find_peer(const mrt_peer *slots, size_t slots_len, size_t count, uint8_t type, const uint8_t *addr,
+                        size_t addr_len);
+
+/*
+ * Adds a peer to the first `count` slots. A known address gives its id, below the count, and changes nothing. Any other gives the
+ * count: the peer is in that slot, zeros after a four-octet address, and the count is the caller's to raise.
+ * Refusals: 8 where `addr` has fewer than 16 octets and where `count` is above the slots or above 65,535, then, for an address
+ * that is not known, 10 at 65,535 peers and 9 where no slot is left.
+ */
+mrt_found mrt_add_peer(mrt_peer *slots, size_t slots_len, size_t count, uint8_t type, uint32_t id, const uint8_t *addr,
+                       size_t addr_len, uint32_t asn);
+
+/*
+ * Writes the body of a PEER_INDEX_TABLE at the front of `out`: the collector id, the view name and the first `count` slots.
+ * Refusals: 8 where `count` is above the slots or above 65,535, 10 where the view name has more than 65,535 octets or an AS above
+ * 65,535 has two octets, 9.
+ */
+mrt_written mrt_write_peers(uint8_t *out, size_t out_len, uint32_t collector, const uint8_t *view, size_t view_len,
+                            const mrt_peer *slots, size_t slots_len, size_t count);
 
 /*
  * The head of a RIB body; the prefix goes into the first 16 octets of `prefix`, the bits after it cleared.

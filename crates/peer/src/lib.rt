@@ -17,6 +17,7 @@ pub use table::check_peers;
 pub use table::view_name;
 
 // A peer, as the slots hold it.
+#[repr(C)]
 pub struct Peer {
     // The type octet: value 1 means an IPv6 address, value 2 an AS of four octets.
     pub kind: u8,
