@@ -62,7 +62,7 @@ typedef struct mrt_found {
 } mrt_found;
 
 /*
- * A peer, as the slots hold it, in 28 octets; the three after `type` are not looked at. Bit value 1 of `type` means an IPv6
+ * A peer, as the slots hold it, in 28 octets, of which the three after `type` mean nothing. Bit value 1 of `type` means an IPv6
  * address, value 2 an AS of four octets. A four-octet address is the first four of `addr`.
  */
 typedef struct mrt_peer {

@@ -76,6 +76,9 @@ module _ (v : Verdict) where
     unfolding takenUp
     taken-fit y p q = rw (e, y, p, q)
 
+positive : (n : ℕ) → (n ≡ 0 → ⊥) → 0 < n
+positive n h = omega arith
+
 -- a length that no candidate has
 plausible-most : (k u n us : ℕ) → 65599 < n → plausible k u n us ≡ false
 unfolding plausible
@@ -164,6 +167,15 @@ module _ (s : List ℕ) (p : ℕ) where
       let f : p + 4 + 1 ≡ p + 5 = omega arith in
       rw f at (be-halves s (p + 4) 1 1 (be-one s (p + 4)) (be-one s (p + 4 + 1)))
 
+  -- the length by its first two octets and the others
+  length-octets : (getD s (p + 8) 0 * 256 + getD s (p + 9) 0) * 65536 + beAt s (p + 10) 2 ≡ beAt s (p + 8) 4
+  length-octets =
+      let f : p + 8 + 1 ≡ p + 9 = omega arith in
+      let g : p + 8 + 2 ≡ p + 10 = omega arith in
+      let h : getD s (p + 8) 0 * 256 + getD s (p + 9) 0 ≡ beAt s (p + 8) 2 =
+      rw f at (be-halves s (p + 8) 1 1 (be-one s (p + 8)) (be-one s (p + 8 + 1))) in
+      rw g at (be-halves s (p + 8) 2 2 h refl)
+
   module _ (l : p ≤ length s) where
     -- a header that begins no candidate
     not-begun : begins (over (drop p s) header) ≡ false → fails ≡ over s (candidateAt p)
@@ -202,6 +214,13 @@ module _ (s : List ℕ) (p : ℕ) where
             let d : beAt (drop p s) 8 4 ≡ beAt s (p + 8) 4 = be-drop s p 8 4 in
             plausible-most _ _ _ _ (omega arith)
         by-number false t = refl
+
+    -- the same by the length's first two octets
+    pub candidate-huge : (getD s (p + 8) 0 ≡ 0 → ⊥) → fails ≡ over s (candidateAt p)
+    candidate-huge h = let e = length-octets in let z = positive (getD s (p + 8) 0) h in candidate-long refl (omega arith)
+
+    pub candidate-large : 1 < getD s (p + 9) 0 → fails ≡ over s (candidateAt p)
+    candidate-large h = let e = length-octets in candidate-long refl (omega arith)
 
     -- what the judgement of the record says
     pub candidate-taken : {j : Judged} → j ≡ over s (judgeAt p) → takenUp j ≡ over s (candidateAt p)

@@ -1,7 +1,14 @@
 // The walk across the boundary.
 ghost use mathlib.Core.Path.{_≡_};
 ghost use Rattle.recover.specs.Answers.{said};
-ghost use Rattle.mrt_walk.specs.Next.{answerOut, nextOut};
+ghost use Prim.Native.Nat.{_≤_};
+ghost use lib.ListN.{length};
+ghost use Rattle.rules.specs.Ask.{over};
+ghost use Rattle.walk.specs.Step.{step};
+ghost use Rattle.judge.specs.Record.{judgeAt};
+ghost use Rattle.judge.specs.Candidate.{candidateAt};
+ghost use Rattle.mrt_walk.specs.Next.{answerOut, steppedOut, nextOut};
+use judge::Verdict;
 use lent::put_values;
 use lent::refusal;
 use recover::WalkAnswer;
@@ -33,10 +40,56 @@ pub extern "C" fn mrt_next(
     if out.len() < 10 {
         return 9;
     }
-    let before = Walk {
-        position,
-        finished: finished == 1,
-    };
+    if finished == 1 {
+        return take_step(
+            s,
+            walk,
+            Walk {
+                position,
+                finished: true,
+            },
+            window,
+            asked,
+            out,
+        );
+    }
+    // A record that passes is the usual answer, and needs nothing of the search.
+    if let Verdict::Fit {
+        header,
+        wire,
+        body,
+        end,
+    } = judge::judge_at(s, position) {
+        walk[0] = end as u64;
+        let v = lent::record_values(1, position, header, wire, body, end);
+        put_values(out, &v);
+        return 0;
+    }
+    take_step(
+        s,
+        walk,
+        Walk {
+            position,
+            finished: false,
+        },
+        window,
+        asked,
+        out,
+    )
+}
+
+// A step of the walk, whatever its answer, and the walk moved.
+fn take_step(
+    s: &[u8],
+    walk: &mut [u64],
+    before: Walk,
+    window: usize,
+    asked: u8,
+    out: &mut [u64],
+) -> u32
+    requires { ⌜ 2 ≤ length (now walk) ⌝ }
+    ensures { λ r. ⌜ (now (walk .exit), (now (out .exit), r)) ≡ steppedOut (now (walk .entry)) (now (out .entry)) (over (now (s .entry)) (step judgeAt candidateAt before window asked)) ⌝ }
+{
     let after = recover::step(s, before, window, asked);
     let moved = after.walk;
     walk[0] = moved.position as u64;

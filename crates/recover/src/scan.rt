@@ -92,7 +92,11 @@ fn may_begin(s: &[u8], at: usize) -> bool
     if s[at + 4] != 0 {
         return false;
     }
-    if 65603 < octets::be32(s, at + 8) {
+    // Of the others most have a length that no candidate has.
+    if s[at + 8] != 0 {
+        return false;
+    }
+    if 1 < s[at + 9] {
         return false;
     }
     let low = s[at + 5];

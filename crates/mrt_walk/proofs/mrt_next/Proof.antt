@@ -1,5 +1,7 @@
-use Rattle.recover.specs.Answers.{said}
-use Rattle.mrt_walk.proofs.Walks.{next-short, next-unmarked, next-beyond, next-full, next-moved}
+use mathlib.Core.Path.{sym, _∙_, ap}
+use Rattle.octets.specs.Octets.{patch}
+use Rattle.judge.specs.Record.{judged}
+use Rattle.mrt_walk.proofs.Walks.{next-short, next-unmarked, next-beyond, next-full, next-stepped, next-handed, walk-marked, walk-unmarked}
 use borrow.Author.Needs.{needs}
 use Rattle.mrt_walk.proofs.mrt_next.Statement.{statement}
 use Rattle.mrt_walk.proofs.mrt_next.Tie as tie
@@ -26,20 +28,8 @@ returns-4 c =
     let at-if1 = at-if2 .before .before .before in
     next-full _ _ _ _ _ (at-if1 .if1 .left) (at-if2 .if2 .left) (at-if3 .if3 .left) (c .if4 .taken)
 
-step-requires : tie.Need-step-requires
-step-requires c κs = search needs
-
-slice-write-walk : tie.Need-slice-write-walk
-slice-write-walk c = search needs
-
-mark-of-requires : tie.Need-mark-of-requires
-mark-of-requires c κs = search needs
-
-slice-write-walk-2 : tie.Need-slice-write-walk-2
-slice-write-walk-2 c = search needs
-
-put-answer-requires : tie.Need-put-answer-requires
-put-answer-requires c κs = search needs
+take-step-requires : tie.Need-take-step-requires
+take-step-requires c κs = search needs
 
 same-length : tie.Need-same-length
 same-length c = search needs
@@ -49,16 +39,74 @@ same-length-2 c = search needs
 
 returns-5 : tie.Need-returns-5
 returns-5 c =
-    let at-put-answer = c .before .before in
-    let at-mark-of = at-put-answer .before .before in
-    let at-step = at-mark-of .before .before in
-    let at-if4 = at-step .before in
+    let at-take = c .before .before .before .before in
+    let at-if5 = at-take .before .before .before in
+    let at-if4 = at-if5 .before in
     let at-if3 = at-if4 .before in
     let at-if2 = at-if3 .before in
     let at-if1 = at-if2 .before .before .before in
-    next-moved _ _ _ _ _ (at-if1 .if1 .left) (at-if2 .if2 .left) (at-if3 .if3 .left) (at-if4 .if4 .left)
-    (at-step .step .result .walk) (said (at-step .step .result .answer)) (at-step .step .ensures) (at-mark-of .mark-of .ensures)
-    (at-put-answer .put-answer .ensures)
+    next-stepped _ _ _ _ _ (at-if1 .if1 .left) (at-if2 .if2 .left) (at-if3 .if3 .left) (at-if4 .if4 .left) _
+    (walk-marked (at-if1 .before .before .before .before .args .walk .now) (at-if5 .if5 .taken)) (at-take .take-step .ensures)
+
+judge-at-requires : tie.Need-judge-at-requires
+judge-at-requires c κs = search needs
+
+enum-known-header : tie.Need-enum-known-header
+enum-known-header c = search needs
+
+slice-write-walk : tie.Need-slice-write-walk
+slice-write-walk c = search needs
+
+record-values-requires : tie.Need-record-values-requires
+record-values-requires c κs = search needs
+
+slice-aggregate-put-values : tie.Need-slice-aggregate-put-values
+slice-aggregate-put-values c = search needs
+
+put-values-requires : tie.Need-put-values-requires
+put-values-requires c κs = search needs
+
+same-length-3 : tie.Need-same-length-3
+same-length-3 c = search needs
+
+same-length-4 : tie.Need-same-length-4
+same-length-4 c = search needs
+
+returns-6 : tie.Need-returns-6
+returns-6 c =
+    let at-put = c .before .before in
+    let at-values = at-put .before .before .before in
+    let at-header = at-values .before .before in
+    let at-judge = at-header .before .before in
+    let at-if5 = at-judge .before in
+    let at-if4 = at-if5 .before in
+    let at-if3 = at-if4 .before in
+    let at-if2 = at-if3 .before in
+    let at-if1 = at-if2 .before .before .before in
+    next-handed _ _ _ _ _ (at-if1 .if1 .left) (at-if2 .if2 .left) (at-if3 .if3 .left) (at-if4 .if4 .left) (at-if5 .if5 .left) _
+    (sym (ap judged (at-header .header .given .1)) ∙ at-judge .judge-at .ensures)
+    (at-put .put-values .ensures ∙ ap (patch _ 0) (at-values .record-values .ensures))
+
+take-step-requires-2 : tie.Need-take-step-requires-2
+take-step-requires-2 c κs = search needs
+
+same-length-5 : tie.Need-same-length-5
+same-length-5 c = search needs
+
+same-length-6 : tie.Need-same-length-6
+same-length-6 c = search needs
+
+returns-7 : tie.Need-returns-7
+returns-7 c =
+    let at-take = c .before .before .before .before in
+    let at-judge = at-take .before .before .before .before in
+    let at-if5 = at-judge .before in
+    let at-if4 = at-if5 .before in
+    let at-if3 = at-if4 .before in
+    let at-if2 = at-if3 .before in
+    let at-if1 = at-if2 .before .before .before in
+    next-stepped _ _ _ _ _ (at-if1 .if1 .left) (at-if2 .if2 .left) (at-if3 .if3 .left) (at-if4 .if4 .left) _
+    (walk-unmarked (at-if1 .before .before .before .before .args .walk .now) (at-if5 .if5 .left)) (at-take .take-step2 .ensures)
 
 pub mrt-next-spec : {M : Type 1} → statement M
 mrt-next-spec =
@@ -70,11 +118,20 @@ mrt-next-spec =
     returns-2
     returns-3
     returns-4
-    step-requires
-    slice-write-walk
-    mark-of-requires
-    slice-write-walk-2
-    put-answer-requires
+    take-step-requires
     same-length
     same-length-2
-    returns-5)
+    returns-5
+    judge-at-requires
+    enum-known-header
+    slice-write-walk
+    record-values-requires
+    slice-aggregate-put-values
+    put-values-requires
+    same-length-3
+    same-length-4
+    returns-6
+    take-step-requires-2
+    same-length-5
+    same-length-6
+    returns-7)
