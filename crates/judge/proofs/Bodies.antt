@@ -1,8 +1,11 @@
 -- The body check by type.
-use Prim.Native.Nat.{ℕ}
+use Prim.Native.Nat.{ℕ, _<_, _≤_}
 use mathlib.Core.Path.{_≡_, refl}
+use mathlib.Core.Bool.{Bool, true, false}
 use mathlib.Core.List.{List}
-use borrow.Author.Tests.{eq-eqb, ne-eqb}
+use native.Mathlib.Omega.{arith}
+use lib.Dec.{eqb}
+use borrow.Author.Tests.{eq-eqb, ne-eqb, eqb-true, eqb-false}
 use Rattle.peer.specs.Table.{checkPeers}
 use Rattle.rib.specs.Head.{checkRib}
 use Rattle.checks.specs.Legacy.{legacy}
@@ -27,13 +30,20 @@ module _ (u : ℕ) (b : List ℕ) where
     unfolding check
     check-dump e = rw e
 
-    pub check-plain : k ≡ 16 → bgp4mp u b ≡ check k u n b
+    check-plain : k ≡ 16 → bgp4mp u b ≡ check k u n b
     unfolding check
     check-plain e = rw e
 
-    pub check-extended : k ≡ 17 → bgp4mp u b ≡ check k u n b
+    check-extended : k ≡ 17 → bgp4mp u b ≡ check k u n b
     unfolding check
     check-extended e = rw e
+
+    pub check-message : 16 ≤ k → k < 18 → bgp4mp u b ≡ check k u n b
+    check-message l h = by-test (eqb k 16) refl
+      where
+        by-test : (t : Bool) → eqb k 16 ≡ t → bgp4mp u b ≡ check k u n b
+        by-test true e = check-plain (eqb-true k 16 e)
+        by-test false e = let d : k ≡ 16 → ⊥ = eqb-false k 16 e in check-extended (omega arith)
 
     pub check-rest : (k ≡ 5 → ⊥) → (k ≡ 13 → ⊥) → (k ≡ 16 → ⊥) → (k ≡ 17 → ⊥) → 5 ≡ check k u n b
     unfolding check

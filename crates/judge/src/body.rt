@@ -13,8 +13,7 @@ pub fn check_body(body: &[u8], kind: u16, subtype: u16, stored: u32) -> Outcome
     match kind {
         5 => checks::check_legacy(subtype, stored),
         13 => check_table_dump(body, subtype),
-        16 => checks::check_bgp4mp(body, subtype),
-        17 => checks::check_bgp4mp(body, subtype),
+        16 | 17 => checks::check_bgp4mp(body, subtype),
         _ => Outcome::Refused(Refusal::NotCarried),
     }
 }

@@ -1,5 +1,6 @@
 use mathlib.Core.Path.{_∙_}
-use Rattle.judge.proofs.Bodies.{check-legacy, check-dump, check-plain, check-extended, check-rest}
+use native.Mathlib.Omega.{arith}
+use Rattle.judge.proofs.Bodies.{check-legacy, check-dump, check-message, check-rest}
 use borrow.Author.Needs.{needs}
 use Rattle.judge.proofs.body.check_body.Statement.{statement}
 use Rattle.judge.proofs.body.check_body.Tie as tie
@@ -13,9 +14,6 @@ check-table-dump-requires c κs = search needs
 check-bgp4mp-requires : tie.Need-check-bgp4mp-requires
 check-bgp4mp-requires c κs = search needs
 
-check-bgp4mp-requires-2 : tie.Need-check-bgp4mp-requires-2
-check-bgp4mp-requires-2 c κs = search needs
-
 returns : tie.Need-returns
 returns c = c .check-legacy .ensures ∙ check-legacy _ _ _ _ (c .before .match .keys1)
 
@@ -23,13 +21,17 @@ returns-2 : tie.Need-returns-2
 returns-2 c = c .check-table-dump .ensures ∙ check-dump _ _ _ _ (c .before .match .keys2)
 
 returns-3 : tie.Need-returns-3
-returns-3 c = c .check-bgp4mp .ensures ∙ check-plain _ _ _ _ (c .before .match .keys3)
+returns-3 c = c .check-bgp4mp .ensures ∙ check-message _ _ _ _ (c .before .before .if1 .left) (c .before .if2 .taken)
 
 returns-4 : tie.Need-returns-4
-returns-4 c = c .check-bgp4mp2 .ensures ∙ check-extended _ _ _ _ (c .before .match .keys4)
+returns-4 c =
+    let rest = c .before .match .rest in
+    check-rest _ _ _ _ (rest .0 .1) (rest .1) (λ e. omega arith) (λ e. omega arith)
 
 returns-5 : tie.Need-returns-5
-returns-5 c = check-rest _ _ _ _ (c .match .rest .0 .0 .0 .1) (c .match .rest .0 .0 .1) (c .match .rest .0 .1) (c .match .rest .1)
+returns-5 c =
+    let rest = c .before .before .match .rest in
+    check-rest _ _ _ _ (rest .0 .1) (rest .1) (λ e. omega arith) (λ e. omega arith)
 
 pub check-body-spec : {M : Type 1} → statement M
 check-body-spec =
@@ -38,7 +40,6 @@ check-body-spec =
     check-legacy-requires
     check-table-dump-requires
     check-bgp4mp-requires
-    check-bgp4mp-requires-2
     returns
     returns-2
     returns-3
