@@ -18,7 +18,7 @@
 //! for item in Walk::new(&stream) {
 //!     match item? {
 //!         Item::Record(record) => records += 1,
-//!         Item::Gap(gap) => assert_eq!(gap.to_string(), "0 to 12: the type is unknown; 3 records after a state change"),
+//!         Item::Gap(gap) => assert_eq!(gap.to_string(), "0 to 12: the type is unknown; ends at a state change, 3 confirmed"),
 //!     }
 //! }
 //! assert_eq!(records, 3);

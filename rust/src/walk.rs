@@ -72,8 +72,7 @@ pub struct Gap {
 impl fmt::Display for Gap {
     fn fmt(&self, f: &mut fmt::Formatter<'_>) -> fmt::Result {
         let Gap { start, end, refusal, evidence, confirmed } = self;
-        let records = if *confirmed == 1 { "record" } else { "records" };
-        write!(f, "{start} to {end}: {refusal}; {confirmed} {records} after {evidence}")
+        write!(f, "{start} to {end}: {refusal}; ends at {evidence}, {confirmed} confirmed")
     }
 }
 

@@ -158,7 +158,7 @@ fn octets_of_any_kind_are_walked_over() {
 fn an_answer_has_words() {
     let stream = [state_change(), record(13, 1, &[0; 7]), state_change()].concat();
     let Some(Ok(Item::Gap(gap))) = Walk::new(&stream).nth(1) else { panic!("no gap") };
-    let said = "32 to 51: the body does not meet its check; 1 record after the refused record's own end";
+    let said = "32 to 51: the body does not meet its check; ends at the refused record's own end, 1 confirmed";
     assert_eq!((gap.to_string().as_str(), gap.evidence), (said, Evidence::OwnEnd));
     let exhausted = Walk::with_options(&[0; 7], options(0, 1)).next().unwrap().unwrap_err();
     let said = "at 0 the header runs past the stream, and no record to go on from was found within 0 octets";
