@@ -155,8 +155,8 @@ fn from_c_parameter(parameter: &str) -> (String, String) {
 fn c_source() -> String {
     let header = text("../include/mrt.h");
     let open: Vec<_> = header.split("/*").map(|after| after.split("*/").last().unwrap_or_default()).collect();
-    let open = open.join(" ");
-    open.lines().filter(|line| !line.starts_with('#')).flat_map(str::split_whitespace).collect::<Vec<_>>().join(" ")
+    let lines: Vec<_> = open.iter().flat_map(|part| part.lines()).filter(|line| !line.starts_with('#')).collect();
+    plain(&lines.join("\n"))
 }
 
 /// The structs of the header.
