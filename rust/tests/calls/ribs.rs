@@ -170,10 +170,27 @@ fn what_is_built_is_read_back_and_adding_builds_the_same() {
 }
 
 #[test]
+fn octets_after_the_declared_entries_are_no_entry() {
+    let body = body(1, &[0; 16]);
+    let rib = Rib::read(&body, 2).unwrap();
+    assert_eq!((rib.count, rib.entries().count(), Entries::read(&body, 2).unwrap().count()), (1, 1, 1));
+}
+
+#[test]
 fn a_record_gives_its_rib() {
-    let body = body(1, &[0; 8]);
+    // The body would do for a peer table with no peer.
+    let body = body(0, &[0]);
     let stream = crate::record(13, 2, &body);
     let record = Record::read(&stream, 0).unwrap();
     assert_eq!(record.rib(), Rib::read(&body, 2).ok());
     assert!(record.peer_index().is_none());
+}
+
+#[test]
+fn a_record_of_another_type_gives_no_rib() {
+    // The body would do for a RIB record of the same subtype.
+    let body = [0, 0, 0, 1, 0, 0, 0, 2, 0, 0, 0, 1, 192, 0, 2, 1, 192, 0, 2, 2, 0, 5, 0, 6];
+    assert!(Rib::read(&body, 5).is_ok());
+    let stream = crate::record(16, 5, &body);
+    assert!(Record::read(&stream, 0).unwrap().rib().is_none());
 }
