@@ -49,7 +49,7 @@ fn make(archive: &Path) {
 fn stop(why: &str) -> ! {
     eprintln!("mrt: {why}.");
     eprintln!(
-        "mrt: set MRT_ARCHIVE to the path of a libmrt.a. `bash tests/archive libmrt.a`, in the repository, makes one."
+        "mrt: set MRT_ARCHIVE to the full path of a libmrt.a. `bash tests/archive libmrt.a`, in the repository, makes one."
     );
     exit(1);
 }
