@@ -1,13 +1,13 @@
 //! The body check, and the test that a scan puts to each offset.
 
-use crate::{Refusal, boundary};
+use crate::{Refusal, StoredLength, boundary};
 use core::fmt;
 
 /// Checks a body by the type, subtype and stored length of its record. Of type 5 the octets are not looked at.
 ///
 /// # Errors
 ///
-/// 5 for a type that is not carried, 6, 7.
+/// [`Refusal::NotCarried`], [`Refusal::OtherSubtype`], [`Refusal::BodyNotMet`].
 ///
 /// ```
 /// use mrt::{Refusal, StoredLength, check_body};
@@ -16,7 +16,7 @@ use core::fmt;
 /// assert_eq!(check_body(&[0; 7], 13, 1, StoredLength(7)), Err(Refusal::BodyNotMet));
 /// assert_eq!(check_body(&[0; 8], 12, 1, StoredLength(8)), Err(Refusal::NotCarried));
 /// ```
-pub fn check_body(body: &[u8], kind: u16, subtype: u16, stored: crate::StoredLength) -> Result<(), Refusal> {
+pub fn check_body(body: &[u8], kind: u16, subtype: u16, stored: StoredLength) -> Result<(), Refusal> {
     boundary::check_body(body, kind, subtype, stored.0)
 }
 

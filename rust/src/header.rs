@@ -1,7 +1,6 @@
 //! The common header, and the record that it frames.
 
 use crate::{PeerIndex, Refusal, Rib, boundary, part};
-use core::ops::Deref;
 
 /// A length as the header has it on the wire. For type 17 it counts the four octets of microseconds.
 #[derive(Debug, Clone, Copy, PartialEq, Eq, PartialOrd, Ord, Hash)]
@@ -34,7 +33,8 @@ impl Header {
     ///
     /// # Errors
     ///
-    /// 8 for an offset beyond the stream, 1, 2, 3, and 1 for microseconds that are cut off.
+    /// [`Refusal::Beyond`] for an offset beyond the stream, [`Refusal::TruncatedHeader`], [`Refusal::UnknownType`],
+    /// [`Refusal::ShortLength`], and [`Refusal::TruncatedHeader`] where the microseconds are cut off.
     ///
     /// ```
     /// use mrt::{Header, Refusal, StoredLength, WireLength};
@@ -83,7 +83,8 @@ impl NewHeader {
     ///
     /// # Errors
     ///
-    /// 2; 10 for microseconds that have no place, or a stored length of type 17 above 4,294,967,291; 9.
+    /// [`Refusal::UnknownType`]; [`Refusal::TooLarge`] for microseconds that have no place, or a stored length of type 17
+    /// above 4,294,967,291; [`Refusal::NoRoom`].
     ///
     /// ```
     /// use mrt::{Header, NewHeader, Refusal, StoredLength};
@@ -126,7 +127,7 @@ impl<'a> Frame<'a> {
     ///
     /// # Errors
     ///
-    /// 8 for an offset beyond the stream, 1, 2, 3, 1, 4.
+    /// Those of [`Header::read`], then [`Refusal::TruncatedBody`].
     ///
     /// ```
     /// use mrt::{Frame, Refusal};
@@ -147,16 +148,26 @@ impl<'a> Frame<'a> {
     }
 }
 
-/// A record: a [`Frame`] whose type and subtype are carried and whose body meets their check. It has the fields of its frame.
+/// A record: a [`Frame`] whose type and subtype are carried and whose body meets their check.
 #[derive(Debug, Clone, Copy, PartialEq, Eq, Hash)]
-pub struct Record<'a>(Frame<'a>);
+#[non_exhaustive]
+pub struct Record<'a> {
+    /// The header.
+    pub header: Header,
+    /// Where the header starts in the stream.
+    pub start: usize,
+    /// Where the body ends in the stream.
+    pub end: usize,
+    /// The body, a part of the stream.
+    pub body: &'a [u8],
+}
 
 impl<'a> Record<'a> {
     /// Frames the record at an offset and puts its body to the check.
     ///
     /// # Errors
     ///
-    /// 8 for an offset beyond the stream, 1, 2, 3, 1, 4, 5, 6, 7.
+    /// Those of [`Frame::read`], then [`Refusal::NotCarried`], [`Refusal::OtherSubtype`], [`Refusal::BodyNotMet`].
     ///
     /// ```
     /// use mrt::{Record, Refusal};
@@ -174,12 +185,8 @@ impl<'a> Record<'a> {
 
     /// The record of an answer's values.
     pub(crate) fn of(stream: &'a [u8], start: u64, values: [u64; 8]) -> Record<'a> {
-        Record(Frame::of(stream, start as usize, values))
-    }
-
-    /// The frame by itself.
-    pub const fn frame(&self) -> &Frame<'a> {
-        &self.0
+        let Frame { header, start, end, body } = Frame::of(stream, start as usize, values);
+        Record { header, start, end, body }
     }
 
     /// The head of a PEER_INDEX_TABLE (type 13, subtype 1), or `None` for any other record.
@@ -199,10 +206,9 @@ impl<'a> Record<'a> {
     }
 }
 
-impl<'a> Deref for Record<'a> {
-    type Target = Frame<'a>;
-
-    fn deref(&self) -> &Frame<'a> {
-        &self.0
+impl<'a> From<Record<'a>> for Frame<'a> {
+    fn from(record: Record<'a>) -> Frame<'a> {
+        let Record { header, start, end, body } = record;
+        Frame { header, start, end, body }
     }
 }

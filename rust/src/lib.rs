@@ -42,7 +42,7 @@
 //!
 //! No panic can be reached. An `expect` could stand where an answer's offsets cut a part out of the stream, since the library
 //! is proved to answer offsets inside it. The crate takes an empty part there instead: that arm is never run, and no panic is
-//! left in the program for it. The lints below keep it so.
+//! left in the program for it. Lints, and a look at what the compiled crate asks for, keep it so.
 #![no_std]
 #![warn(missing_docs)]
 #![deny(unsafe_code)]

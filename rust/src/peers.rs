@@ -85,7 +85,7 @@ impl<'a> PeerIndex<'a> {
     ///
     /// # Errors
     ///
-    /// 7.
+    /// [`Refusal::BodyNotMet`].
     ///
     /// ```
     /// use mrt::{PeerIndex, Refusal};
@@ -153,7 +153,7 @@ impl<'a> PeerTable<'a> {
     ///
     /// # Errors
     ///
-    /// 8 for a count above the slots or above 65,535.
+    /// [`Refusal::Beyond`] for a count above the slots or above 65,535.
     pub const fn with_peers(slots: &'a mut [Peer], count: usize) -> Result<PeerTable<'a>, Refusal> {
         if slots.len() < count || 65_535 < count {
             return Err(Refusal::Beyond);
@@ -165,7 +165,7 @@ impl<'a> PeerTable<'a> {
     ///
     /// # Errors
     ///
-    /// 7; 9 for fewer slots than peers, whose number [`PeerIndex::read`] gives.
+    /// [`Refusal::BodyNotMet`]; [`Refusal::NoRoom`] for fewer slots than peers, whose number [`PeerIndex::read`] gives.
     pub fn load(body: &[u8], slots: &'a mut [Peer]) -> Result<PeerTable<'a>, Refusal> {
         let count = usize::from(PeerIndex::read(body)?.count);
         boundary::load_peers(body, slots)?;
@@ -182,7 +182,7 @@ impl<'a> PeerTable<'a> {
     ///
     /// # Errors
     ///
-    /// 10 for a 65,536th peer, 9 for want of a slot.
+    /// [`Refusal::TooLarge`] for a 65,536th peer, [`Refusal::NoRoom`] for want of a slot.
     pub fn add(&mut self, peer: &Peer) -> Result<Added, Refusal> {
         let id = boundary::add_peer(self.slots, self.count, peer)?;
         if usize::from(id) < self.count {
@@ -196,7 +196,8 @@ impl<'a> PeerTable<'a> {
     ///
     /// # Errors
     ///
-    /// 10 for a view name above 65,535 octets or an AS above 65,535 in a field of two octets; 9.
+    /// [`Refusal::TooLarge`] for a view name above 65,535 octets or an AS above 65,535 in a field of two octets;
+    /// [`Refusal::NoRoom`].
     pub fn write(&self, out: &mut [u8], collector: u32, view: &[u8]) -> Result<usize, Refusal> {
         boundary::write_peers(out, collector, view, self.slots, self.count)
     }

@@ -52,7 +52,8 @@ impl<'a> Rib<'a> {
     ///
     /// # Errors
     ///
-    /// 6 for a subtype other than 2 to 5 and 8 to 11; 7 for a head that is cut off, or more bits than an address has.
+    /// [`Refusal::OtherSubtype`] for a subtype other than 2 to 5 and 8 to 11; [`Refusal::BodyNotMet`] for a head that is cut
+    /// off, or more bits than an address has.
     pub fn read(body: &'a [u8], subtype: u16) -> Result<Rib<'a>, Refusal> {
         let ([sequence, bits, declared, count, entries], octets) = boundary::read_rib(body, subtype)?;
         Ok(Rib {
@@ -75,7 +76,7 @@ impl<'a> Rib<'a> {
     ///
     /// # Errors
     ///
-    /// 8 at or beyond the read count.
+    /// [`Refusal::Beyond`] at or beyond the read count.
     pub fn entry(&self, i: usize) -> Result<Entry<'a>, Refusal> {
         boundary::rib_entry(self.body, self.subtype, i).map(|values| Entry::of(self.body, values))
     }
@@ -141,7 +142,7 @@ impl<'a> Entries<'a> {
     ///
     /// # Errors
     ///
-    /// 6, 7.
+    /// Those of [`Rib::read`].
     pub fn read(body: &'a [u8], subtype: u16) -> Result<Entries<'a>, Refusal> {
         let [at, left] = boundary::rib_first(body, subtype)?;
         Ok(Entries { body, subtype, at: at as usize, left: left as u16 })

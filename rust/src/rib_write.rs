@@ -34,7 +34,7 @@ impl<'a> RibBuilder<'a> {
     ///
     /// # Errors
     ///
-    /// 6; 10 for more bits than an address has; 9.
+    /// [`Refusal::OtherSubtype`]; [`Refusal::TooLarge`] for more bits than an address has; [`Refusal::NoRoom`].
     pub fn begin(out: &'a mut [u8], subtype: u16, sequence: u32, prefix: &Prefix) -> Result<RibBuilder<'a>, Refusal> {
         let len = boundary::begin_rib(out, subtype, sequence, prefix.bits, &prefix.octets)?;
         RibBuilder::open(out, len, subtype)
@@ -44,7 +44,8 @@ impl<'a> RibBuilder<'a> {
     ///
     /// # Errors
     ///
-    /// 8 for a length beyond the output; 6; 7 where an entry is missing or octets are left over.
+    /// [`Refusal::Beyond`] for a length beyond the output; [`Refusal::OtherSubtype`]; [`Refusal::BodyNotMet`] for a head that
+    /// cannot be read, an entry that is missing, or octets that are left over.
     pub fn open(out: &'a mut [u8], len: usize, subtype: u16) -> Result<RibBuilder<'a>, Refusal> {
         let body = out.get(..len).ok_or(Refusal::Beyond)?;
         let state = boundary::open_rib(body, subtype)?;
@@ -55,7 +56,8 @@ impl<'a> RibBuilder<'a> {
     ///
     /// # Errors
     ///
-    /// 10 for a 65,536th entry, attributes above 65,535 octets, or a path number where the subtype has none; 9.
+    /// [`Refusal::TooLarge`] for a 65,536th entry, attributes above 65,535 octets, or a path number where the subtype has none;
+    /// [`Refusal::NoRoom`].
     pub fn push(&mut self, entry: &Entry<'_>) -> Result<(), Refusal> {
         boundary::push_entry(self.out, self.subtype, &mut self.state, entry)
     }
@@ -88,8 +90,7 @@ impl<'a> RibBuilder<'a> {
 ///
 /// # Errors
 ///
-/// 8 for a length beyond the output; 6; 7 where an entry is missing or octets are left over; 10 for a 65,536th entry,
-/// attributes above 65,535 octets, or a path number where the subtype has none; 9.
+/// Those of [`RibBuilder::open`], then those of [`RibBuilder::push`].
 ///
 /// ```
 /// use mrt::{Entry, Refusal, add_entry};

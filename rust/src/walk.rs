@@ -143,7 +143,7 @@ impl<'a> Walk<'a> {
     ///
     /// # Errors
     ///
-    /// 8 for an offset beyond the stream.
+    /// [`Refusal::Beyond`] for an offset beyond the stream.
     ///
     /// ```
     /// use mrt::{Options, Refusal, Walk};

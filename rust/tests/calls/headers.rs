@@ -40,7 +40,7 @@ fn a_frame_that_fills_the_stream_borrows_its_body() {
     assert_eq!((frame.start, frame.end, frame.body), (32, stream.len(), &stream[44..]));
     let record = Record::read(&stream, 0).unwrap();
     assert_eq!((record.start, record.end, record.body), (0, 32, &stream[12..32]));
-    assert_eq!(Ok(*record.frame()), Frame::read(&stream, 0));
+    assert_eq!(Ok(Frame::from(record)), Frame::read(&stream, 0));
     assert!(record.peer_index().is_none() && record.rib().is_none());
 }
 
