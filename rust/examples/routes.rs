@@ -37,20 +37,14 @@ fn report_all(files: &[OsString], out: &mut impl Write) -> io::Result<bool> {
     let mut total = Total::default();
     let mut whole = true;
     for file in files {
-        let name = file.display();
         match fs::read(file) {
             Ok(stream) => {
-                let report = Report::of(file, &stream);
-                write!(out, "{name}\n{report}")?;
-                out.flush()?;
-                if let Some(packer) = packer(&stream).filter(|_| report.total.records == 0) {
-                    eprintln!("routes: {name} looks packed by {packer}: unpack it first");
-                }
+                let report = report_one(file, &stream, out)?;
                 total += report.total;
                 whole &= report.exhausted.is_none();
             }
             Err(error) => {
-                eprintln!("routes: {name} cannot be read: {error}");
+                eprintln!("routes: {} cannot be read: {error}", file.display());
                 whole = false;
             }
         }
@@ -60,6 +54,18 @@ fn report_all(files: &[OsString], out: &mut impl Write) -> io::Result<bool> {
     }
     out.flush()?;
     Ok(whole)
+}
+
+/// Reports on a file.
+fn report_one(file: &OsStr, stream: &[u8], out: &mut impl Write) -> io::Result<Report> {
+    let name = file.display();
+    let report = Report::of(file, stream);
+    write!(out, "{name}\n{report}")?;
+    out.flush()?;
+    if let Some(packer) = packer(stream).filter(|_| report.total.records == 0) {
+        eprintln!("routes: {name} looks packed by {packer}: unpack it first");
+    }
+    Ok(report)
 }
 
 /// The program that packed a file, by the first octets.

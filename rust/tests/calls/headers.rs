@@ -3,19 +3,21 @@
 use crate::{Random, keepalive, record, state_change};
 use mrt::{Candidate, Evidence, Family, Frame, Header, NewHeader, Record, Refusal, StoredLength, check_body};
 
+/// Every call that reads at an offset gives this refusal.
+fn all_refuse(stream: &[u8], at: usize, refusal: Refusal) {
+    assert_eq!(Header::read(stream, at), Err(refusal));
+    assert_eq!(Frame::read(stream, at), Err(refusal));
+    assert_eq!(Record::read(stream, at), Err(refusal));
+    assert_eq!(Candidate::read(stream, at), None);
+}
+
 #[test]
 fn an_offset_at_the_end_has_no_octets_left_and_one_past_it_is_beyond() {
     for n in [0, 5, 32] {
         let stream = &state_change()[..n];
-        assert_eq!(Header::read(stream, n), Err(Refusal::TruncatedHeader));
-        assert_eq!(Frame::read(stream, n), Err(Refusal::TruncatedHeader));
-        assert_eq!(Record::read(stream, n), Err(Refusal::TruncatedHeader));
-        for at in [n + 1, usize::MAX] {
-            assert_eq!(Header::read(stream, at), Err(Refusal::Beyond));
-            assert_eq!(Frame::read(stream, at), Err(Refusal::Beyond));
-            assert_eq!(Record::read(stream, at), Err(Refusal::Beyond));
-            assert_eq!(Candidate::read(stream, at), None);
-        }
+        all_refuse(stream, n, Refusal::TruncatedHeader);
+        all_refuse(stream, n + 1, Refusal::Beyond);
+        all_refuse(stream, usize::MAX, Refusal::Beyond);
     }
 }
 

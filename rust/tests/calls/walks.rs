@@ -136,9 +136,7 @@ fn a_walk_keeps_its_promises_whatever_the_damage() {
     let mut random = Random(3);
     for turn in 0..20_000 {
         let mut stream = intact(&mut random);
-        for _ in 0..turn % 4 {
-            damage(&mut random, &mut stream);
-        }
+        (0..turn % 4).for_each(|_| damage(&mut random, &mut stream));
         let window = [0, 1, 7, 64, 1_048_576, usize::MAX][random.below(6)];
         let asked = [0, 1, 2, 3, 255][random.below(5)];
         keeps_its_promises(&stream, options(window, asked));
