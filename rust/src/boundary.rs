@@ -6,6 +6,9 @@
 
 use crate::{Entry, Peer, Refusal};
 
+/// The library is for processors of 64 bits, so no offset that it answers is cut where it becomes a `usize`.
+const _: () = assert!(usize::BITS == 64);
+
 /// What a writer answers: how many octets, 0 where refused.
 #[repr(C)]
 struct Written {

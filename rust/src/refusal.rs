@@ -18,7 +18,7 @@ use core::fmt;
 #[derive(Debug, Clone, Copy, PartialEq, Eq, PartialOrd, Ord, Hash)]
 #[repr(u8)]
 pub enum Refusal {
-    /// 1: under 12 octets are left, or under 16 for a type with microseconds.
+    /// 1: under 12 octets are left, or under 16 for type 17, which has microseconds.
     TruncatedHeader = 1,
     /// 2: the type is not one of 0 to 13, 16, 17, 32, 33, 48, 49.
     UnknownType = 2,
