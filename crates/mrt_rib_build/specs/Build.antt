@@ -1,22 +1,15 @@
--- RIB bodies written across the boundary (01, RIB bodies). A prefix is lent as 16 octets: fewer are 8. A builder is lent as three
--- values: where its body ends, where the entry count stands, and that count. No builder, or a count above 65,535, is 8 before
--- every other refusal; a refusal leaves the builder and the output.
+-- RIB bodies built across the boundary (01, RIB bodies). A builder is lent as three values: where its body ends, where the entry
+-- count stands, and that count. No builder, or a count above 65,535, is 8 before every other refusal; a refusal leaves the
+-- builder and the output.
 use Prim.Native.Nat.{ℕ}
 use mathlib.Core.List.{List, [], _∷_}
 use mathlib.Core.Bool.{Bool, _&&_, cond}
 use lib.ListN.{length, getD}
 use lib.Dec.{leb}
-use Rattle.answer.specs.Writing.{Writing, refuse}
-use Rattle.rib_write.specs.Begin.{beginRib}
 use Rattle.rib_write.specs.Add.{Opening, Pushing, pushEntry}
 use Rattle.rib_write.specs.declared.Builder.{Builder}
 use Rattle.rib_write.specs.declared.NewEntry.{NewEntry}
-use Rattle.lent.specs.Export.{exported, sixteenOf}
-
--- a body begun with a prefix that is lent
-unfoldable pub beginFrom : List ℕ → ℕ → ℕ → ℕ → List ℕ → Writing
-beginFrom s t sequence bits prefix =
-    cond (leb 16 (length prefix)) (beginRib s t sequence bits (sixteenOf prefix)) (refuse 8 s)
+use Rattle.lent.specs.Export.{exported}
 
 -- the values of a builder that is opened
 abbrev pub openedValues : Opening → List ℕ

@@ -1,11 +1,11 @@
 use mathlib.Core.Path.{refl}
 use Rattle.rib_write.specs.Add.{Opening, openValues}
 use Rattle.rib_write.specs.declared.BuilderAnswer.the-variants.{Refused}
-use Rattle.mrt_rib_write.specs.Build.{openedValues}
+use Rattle.mrt_rib_build.specs.Build.{openedValues}
 use Rattle.lent.proofs.Handing.{refuses, hands}
 use borrow.Author.Needs.{needs}
-use Rattle.mrt_rib_write.proofs.mrt_open_rib.Statement.{statement}
-use Rattle.mrt_rib_write.proofs.mrt_open_rib.Tie as tie
+use Rattle.mrt_rib_build.proofs.mrt_open_rib.Statement.{statement}
+use Rattle.mrt_rib_build.proofs.mrt_open_rib.Tie as tie
 
 open-rib-requires : tie.Need-open-rib-requires
 open-rib-requires c κs = search needs

@@ -3,11 +3,11 @@ use Rattle.rib_write.specs.Add.{Pushing, pushed}
 use Rattle.rib_write.specs.declared.BuilderAnswer.{BuilderAnswer}
 use Rattle.rib_write.specs.declared.BuilderAnswer.the-variants.{Refused}
 use Rattle.lent.proofs.Handing.{refuses, hands}
-use Rattle.mrt_rib_write.specs.Build.{pushedValues}
-use Rattle.mrt_rib_write.proofs.Builds.{push-short, push-uncounted, push-answered}
+use Rattle.mrt_rib_build.specs.Build.{pushedValues}
+use Rattle.mrt_rib_build.proofs.Builds.{push-short, push-uncounted, push-answered}
 use borrow.Author.Needs.{needs}
-use Rattle.mrt_rib_write.proofs.mrt_push_entry.Statement.{statement}
-use Rattle.mrt_rib_write.proofs.mrt_push_entry.Tie as tie
+use Rattle.mrt_rib_build.proofs.mrt_push_entry.Statement.{statement}
+use Rattle.mrt_rib_build.proofs.mrt_push_entry.Tie as tie
 
 returns : tie.Need-returns
 returns c = push-short _ _ _ _ _ (c .if1 .taken)

@@ -1,29 +1,15 @@
--- What exported writers of RIB bodies are in each of their cases.
+-- What a push across the boundary is in each of its cases.
 use Prim.Native.Nat.{ℕ, _<_, _≤_}
 use mathlib.Core.Path.{_≡_, refl, _∙_, ap}
 use mathlib.Core.List.{List}
 use lib.ListN.{length, getD}
 use borrow.Author.Tests.{le-leb, lt-leb}
-use Rattle.answer.specs.Writing.{Writing, refuse}
-use Rattle.rib_write.specs.Begin.{beginRib}
 use Rattle.rib_write.specs.Add.{Pushing, pushed, pushEntry}
 use Rattle.rib_write.specs.declared.BuilderAnswer.{BuilderAnswer}
 use Rattle.rib_write.specs.declared.BuilderAnswer.the-variants.{Open, Refused}
 use Rattle.rib_write.specs.declared.NewEntry.{NewEntry}
-use Rattle.lent.specs.Export.{exported, sixteenOf}
-use Rattle.mrt_rib_write.specs.Build.{beginFrom, holdsBuilder, builderIn, pushedValues, pushedOut, pushOut}
-
-module _ (s : List ℕ) (t sequence bits : ℕ) (prefix : List ℕ) where
-  -- too short a prefix
-  pub begin-short : length prefix < 16 → refuse 8 s ≡ beginFrom s t sequence bits prefix
-  unfolding beginFrom
-  begin-short h = simp (lt-leb _ _ h)
-
-  -- what is begun with the octets p of the prefix
-  pub begin-whole : 16 ≤ length prefix → {p : List ℕ} {w : Writing} → p ≡ sixteenOf prefix → w ≡ beginRib s t sequence bits p
-      → w ≡ beginFrom s t sequence bits prefix
-  unfolding beginFrom
-  begin-whole h {p} e begun = begun ∙ ap (beginRib s t sequence bits) e ∙ simp (le-leb _ _ h)
+use Rattle.lent.specs.Export.{exported}
+use Rattle.mrt_rib_build.specs.Build.{holdsBuilder, builderIn, pushedValues, pushedOut, pushOut}
 
 module _ (s : List ℕ) (t : ℕ) (ws : List ℕ) (e : NewEntry) (attributes : List ℕ) where
   -- too few places for a builder
