@@ -47,4 +47,5 @@ returns c = search needs
 pub replay-all-spec : {M : Type 1} → statement M
 replay-all-spec =
     tie.close
-    (tie.spec Inv-loop μ-loop loop-holds replay-requires add-wrong add-i loop-less loop-again same-length same-length-2 same-length-3 returns)
+    (tie.spec Inv-loop μ-loop loop-holds replay-requires add-wrong add-i loop-less loop-again same-length
+    same-length-2 same-length-3 returns)
