@@ -94,13 +94,7 @@ impl Default for Differ {
             difference: crate::proved::difference,
             may_be_silent: crate::proved::may_be_silent,
         });
-        Differ {
-            subjects,
-            met: Met::default(),
-            counts: BTreeMap::new(),
-            known: BTreeMap::new(),
-            failures: 0,
-        }
+        Differ { subjects, met: Met::default(), counts: BTreeMap::new(), known: BTreeMap::new(), failures: 0 }
     }
 }
 

@@ -151,9 +151,8 @@ impl Subject for Proved {
     fn rib_read(&self, subtype: u16, body: &[u8]) -> Option<Answer<RibTable>> {
         let (mut out, mut prefix) = ([0; 5], [0; 16]);
         // SAFETY: the slices are lent with their own lengths, and do not overlap.
-        let refusal = unsafe {
-            mrt_read_rib(body.as_ptr(), body.len(), subtype, out.as_mut_ptr(), 5, prefix.as_mut_ptr(), 16)
-        };
+        let refusal =
+            unsafe { mrt_read_rib(body.as_ptr(), body.len(), subtype, out.as_mut_ptr(), 5, prefix.as_mut_ptr(), 16) };
         let value = RibTable {
             sequence: out[0] as u32,
             bits: out[1] as u8,
