@@ -2,6 +2,7 @@
 //! compare the two.
 
 pub mod answers;
+pub mod asked;
 pub mod campaigns;
 pub mod compare;
 pub mod damage;

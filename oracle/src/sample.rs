@@ -1,57 +1,63 @@
-//! A small choice among many questions: a few for each way to answer, and only those where the crate has an answer
-//! and 01 has the same.
+//! The lines of the lists: all of the questions around the bounds, and of many others a few for each way to answer.
 
 use crate::answers::Event;
-use crate::oracle::Oracle;
+use crate::asked;
 use crate::question::{Question, Reply};
 use crate::random::Random;
 use crate::subject::Reading;
-use std::collections::BTreeMap;
+use std::collections::{BTreeMap, BTreeSet};
 
-/// Longer inputs are left out.
+/// Longer inputs are left out of the choice.
 const MOST_OCTETS: usize = 160;
 const MOST_SLOTS: usize = 4;
 /// How many cases of one way to answer are kept.
-const KEPT: usize = 3;
+const KEPT: usize = 2;
 /// One question in so many is looked at, so that neighbours do not fill the list.
 const ONE_IN: usize = 7;
 
 pub struct Sample {
     random: Random,
-    lines: BTreeMap<String, Vec<String>>,
-    left_out: u64,
+    all: Vec<(u8, String)>,
+    seen: BTreeSet<String>,
+    ways: BTreeMap<String, usize>,
 }
 
 impl Sample {
     pub fn new(seed: u64) -> Self {
-        Sample { random: Random::new(seed), lines: BTreeMap::new(), left_out: 0 }
+        Sample { random: Random::new(seed), all: Vec::new(), seen: BTreeSet::new(), ways: BTreeMap::new() }
     }
 
-    /// Keeps a question's lines where it is small, where its way to answer is not yet there often enough, and where
-    /// the crate answers as 01 does.
-    pub fn offer(&mut self, question: &Question, text: impl Fn(&Question, &Reply) -> Option<String>) {
+    /// Keeps a question's lines, each once.
+    pub fn keep(&mut self, question: &Question) {
+        for (call, line) in asked::lines(question) {
+            if self.seen.insert(line.clone()) {
+                self.all.push((call, line));
+            }
+        }
+    }
+
+    /// Keeps a question's lines where it is small and its way to answer is not yet there often enough. The first letter
+    /// of a line, who answered it, is a part of the way.
+    pub fn offer(&mut self, question: &Question) {
         if !is_small(question) || !self.random.once_in(ONE_IN) {
             return;
         }
-        let Some(reply) = question.put_to(&Oracle) else {
+        let Some(reply) = question.put_to(&Reading) else {
             return;
         };
-        let Some(lines) = text(question, &reply) else {
-            return;
-        };
-        if Some(&reply) != question.put_to(&Reading).as_ref() {
-            self.left_out += 1;
-            return;
-        }
-        let kept = self.lines.entry(way(question, &reply)).or_default();
-        if kept.len() < KEPT && !kept.contains(&lines) {
-            kept.push(lines);
+        let way = way(question, &reply);
+        for (call, line) in asked::lines(question) {
+            let kept = self.ways.entry(format!("{call} {} {way}", &line[..1])).or_default();
+            if *kept < KEPT && self.seen.insert(line.clone()) {
+                *kept += 1;
+                self.all.push((call, line));
+            }
         }
     }
 
-    /// The lines kept, and how many questions were left out because the crate and 01 differ.
-    pub fn finish(self) -> (Vec<String>, u64) {
-        (self.lines.into_values().flatten().collect(), self.left_out)
+    /// The lines of a call, in the order in which they were kept.
+    pub fn lines(&self, call: u8) -> Vec<&str> {
+        self.all.iter().filter(|(of, _)| *of == call).map(|(_, line)| line.as_str()).collect()
     }
 }
 
@@ -71,6 +77,9 @@ fn is_small(question: &Question) -> bool {
 fn way(question: &Question, reply: &Reply) -> String {
     let detail = match reply {
         Reply::Header(answer) => format!("{} {}", answer.refusal, answer.value.kind),
+        Reply::Frame(answer) => format!("{} {}", answer.refusal, answer.value.header.kind),
+        Reply::Candidate(answer) => format!("{} {}", answer.family, answer.evidence),
+        Reply::Step(event, _) => shape(event),
         Reply::Table(answer, _) => format!("{} {}", answer.refusal, answer.value.count),
         Reply::Id(answer) | Reply::Added(answer, _) => format!("{} {}", answer.refusal, answer.value),
         Reply::Written(answer, _) => format!("{} {}", answer.refusal, answer.value),
@@ -80,7 +89,8 @@ fn way(question: &Question, reply: &Reply) -> String {
         other => format!("{other:?}"),
     };
     let of = match question {
-        Question::HeaderWrite { header, .. } => header.kind,
+        // 01 knows no type above 49
+        Question::HeaderWrite { header, .. } => header.kind.min(50),
         Question::RibRead { subtype, .. } | Question::RibEntry { subtype, .. } => *subtype,
         _ => 0,
     };

@@ -1,2 +1,2 @@
--- Builds: the cases of the calls that write RIB bodies.
-pub mod Builds
+-- Begins: the cases of `mrt_begin_rib`.
+pub mod Begins

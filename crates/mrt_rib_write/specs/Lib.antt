@@ -1,2 +1,2 @@
--- Build: what the calls that write RIB bodies return and leave.
-pub mod Build
+-- Begin: a body begun with a prefix that is lent.
+pub mod Begin

@@ -2,7 +2,7 @@
 //! where the random numbers start. Ends with status 1 where a disagreement has no name. `--rows` shows the smallest
 //! input for each known difference instead.
 
-use mrt_oracle::campaigns::{edges, headers, peers, real, records, ribs, rows, streams, tokens};
+use mrt_oracle::campaigns::{bounds, edges, headers, peers, real, records, ribs, rows, streams, tokens};
 use mrt_oracle::compare::Differ;
 use mrt_oracle::question::Question;
 use mrt_oracle::random::Random;
@@ -52,6 +52,7 @@ fn timed(name: &str, campaign: impl FnOnce()) {
 fn run_campaigns(differ: &mut Differ, settings: &Settings) {
     let mut random = Random::new(settings.seed);
     let mut put = |question: &Question| differ.ask(question);
+    timed("bounds", || bounds::run(&mut put));
     timed("headers", || headers::run(&mut put, &mut random));
     timed("peers", || peers::run(&mut put, &mut random));
     timed("ribs", || ribs::run(&mut put, &mut random));

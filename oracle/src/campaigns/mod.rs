@@ -3,6 +3,7 @@
 
 use crate::question::Question;
 
+pub mod bounds;
 pub mod edges;
 pub mod headers;
 pub mod peers;

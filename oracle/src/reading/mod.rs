@@ -9,6 +9,6 @@ mod walk;
 
 pub use check::body_check;
 pub use header::{frame, read_header, write_header};
-pub use peers::{add_peer, find_peer, read_peers, write_peers};
+pub use peers::{add_peer, find_peer, read_peer, read_peers, write_peers};
 pub use rib::{add_entry, begin_rib, read_entry, read_rib};
 pub use walk::{aligned, candidate, judge, scan, step};

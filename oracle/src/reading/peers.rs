@@ -76,6 +76,16 @@ fn table_head(body: &[u8]) -> Option<PeerTable> {
     Some(PeerTable { collector: be32(body, 0), view_at: 6, view_len, count })
 }
 
+/// The peer at an offset of a body and where the next one starts: 8 beyond the body, then 7 where it does not fit.
+pub fn read_peer(body: &[u8], at: usize) -> Answer<(Peer, usize)> {
+    let peer = body.get(at..).ok_or(8).and_then(|rest| {
+        let size = peer_size(*rest.first().ok_or(7)?);
+        rest.get(..size).ok_or(7)?;
+        Ok((peer_at(body, at), at + size))
+    });
+    peer.into()
+}
+
 /// The peer at an offset. The caller knows that it is held.
 fn peer_at(body: &[u8], at: usize) -> Peer {
     let kind = body[at];

@@ -1,0 +1,2 @@
+-- Builds: the cases of `mrt_push_entry`.
+pub mod Builds

@@ -1,0 +1,18 @@
+//! Both sides of each bound, and every pair of refusals that can hold at once, in small numbers: all of these questions
+//! stand in the lists that the proved program replays.
+
+mod headers;
+mod peers;
+mod records;
+mod ribs;
+mod walks;
+
+use super::Put;
+
+pub fn run(put: Put) {
+    headers::run(put);
+    records::run(put);
+    peers::run(put);
+    ribs::run(put);
+    walks::run(put);
+}

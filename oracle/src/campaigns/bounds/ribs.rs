@@ -1,0 +1,152 @@
+//! RIB bodies: every subtype, prefix bits around each bound, bodies cut around each size, the largest counts, and the
+//! refusals of the writers in their order.
+
+use super::super::Put;
+use crate::answers::NewEntry;
+use crate::make;
+use crate::question::Question;
+use crate::subject::NewHead;
+
+pub fn run(put: Put) {
+    for subtype in 0..=13 {
+        for bits in [0, 32, 33, 128, 129] {
+            cut(put, subtype, bits);
+        }
+    }
+    for subtype in [2, 4, 11] {
+        for bits in [1, 7, 8, 9, 31, 127, 255] {
+            whole(put, subtype, &make::rib_head(1, bits, 0xff, 0));
+        }
+    }
+    ages(put);
+    for subtype in [0, 1, 2, 3, 5, 6, 9, 10, 12] {
+        begins(put, subtype);
+        adds(put, subtype);
+    }
+    broken(put);
+    full(put);
+    long_attributes(put);
+}
+
+fn whole(put: Put, subtype: u16, body: &[u8]) {
+    put(&Question::RibRead { subtype, body });
+}
+
+fn entries(put: Put, subtype: u16, body: &[u8]) {
+    for index in [0, 1, 2, usize::MAX] {
+        put(&Question::RibEntry { subtype, body, timestamp: 0x4800_0000, index });
+    }
+}
+
+/// Two entries declared: the head one octet short and exact, the second entry cut in its fixed part and in its attributes,
+/// exact, and one octet more. A subtype that is not carried comes before an unreadable head, and that before an index.
+fn cut(put: Put, subtype: u16, bits: u8) {
+    let head = make::rib_head(0x0102_0304, bits, 0xff, 2);
+    let first = make::rib_entry(subtype, 1, &[64, 1, 1, 0]);
+    let body = [&head[..], &first, &make::rib_entry(subtype, 0xfffe, &[7]), &[0]].concat();
+    let n = body.len();
+    for length in [0, 4, 5, head.len() - 1, head.len(), n - 3, n - 2, n - 1, n] {
+        whole(put, subtype, &body[..length]);
+    }
+    if bits == 0 || bits == 33 {
+        for length in [0, head.len() - 1, head.len() + first.len(), n - 2, n - 1] {
+            entries(put, subtype, &body[..length]);
+        }
+    }
+}
+
+/// Times on both sides of the record's, and both ends.
+fn ages(put: Put) {
+    for timestamp in [0, 1, 0x46ff_ffff, 0x4700_0000, 0x4700_0001, u32::MAX] {
+        for originated in [0u32, 1, 0x4700_0000, u32::MAX] {
+            let mut body = make::rib_head(1, 0, 0, 1);
+            body.extend(make::rib_entry(2, 1, &[]));
+            let at = body.len() - 6;
+            body[at..at + 4].copy_from_slice(&originated.to_be_bytes());
+            put(&Question::RibEntry { subtype: 2, body: &body, timestamp, index: 0 });
+        }
+    }
+}
+
+/// A subtype that is not carried comes before prefix bits, and those before the room.
+fn begins(put: Put, subtype: u16) {
+    for bits in [0, 1, 8, 9, 32, 33, 128, 129, 255] {
+        let needed = 7 + usize::from(bits).div_ceil(8);
+        for room in [0, needed - 1, needed, needed + 1] {
+            let prefix = if bits % 2 == 0 { [0x5a; 16] } else { [0xff; 16] };
+            let head = NewHead { subtype, sequence: u32::MAX - 1, bits, prefix };
+            put(&Question::RibBegin { room: &vec![0xaa; room], head });
+        }
+    }
+}
+
+fn add(put: Put, buffer: &[u8], length: usize, subtype: u16, path: u32, attributes: &[u8]) {
+    let entry = NewEntry { peer_index: 0xfffe, originated: 0x0102_0304, path, attributes };
+    put(&Question::RibAdd { buffer, length, subtype, entry });
+}
+
+/// To a body of one entry: rooms around one and two entries more, and a length beyond the buffer, which comes first.
+fn adds(put: Put, subtype: u16) {
+    let body = [make::rib_head(5, 9, 0x80, 1), make::rib_entry(subtype, 1, &[1, 2, 3])].concat();
+    let n = body.len();
+    let size = make::rib_entry(subtype, 1, &[1, 2]).len();
+    for room in [0, size - 1, size, size + 1, 2 * size - 1, 2 * size, 2 * size + 1] {
+        let buffer = [&body[..], &vec![0xaa; room]].concat();
+        for path in [0, 1, u32::MAX] {
+            add(put, &buffer, n, subtype, path, &[8, 9]);
+        }
+    }
+    for length in [n + 1, usize::MAX] {
+        add(put, &body, length, subtype, 1, &[8, 9]);
+        add(put, &body[..n - 1], length, subtype, 0, &[]);
+    }
+}
+
+/// A body that is not whole comes before a value that does not fit, and before the room.
+fn broken(put: Put) {
+    for subtype in [1, 2, 10, 12] {
+        let body = [make::rib_head(5, 8, 10, 2), make::rib_entry(subtype, 1, &[]).repeat(2)].concat();
+        let n = body.len();
+        let mut wide = body.clone();
+        wide[4] = 129;
+        for room in [0, 40] {
+            let buffer = [&body[..], &vec![0xaa; room]].concat();
+            for length in [0, 7, 8, n - 1, n, n + room.min(1)] {
+                add(put, &buffer, length, subtype, 1, &[]);
+            }
+            add(put, &[&wide[..], &vec![0xaa; room]].concat(), n, subtype, 1, &[]);
+        }
+    }
+}
+
+/// The 65,535th entry is the last that fits, with room or without.
+fn full(put: Put) {
+    for count in [65_534, 65_535] {
+        let body = [make::rib_head(5, 8, 10, count), make::rib_entry(2, 1, &[]).repeat(usize::from(count))].concat();
+        let n = body.len();
+        for room in [0, 7, 8] {
+            add(put, &[&body[..], &vec![0xaa; room]].concat(), n, 2, 0, &[]);
+        }
+        whole(put, 2, &body);
+        whole(put, 2, &body[..n - 1]);
+        for index in [65_533, 65_534, 65_535] {
+            put(&Question::RibEntry { subtype: 2, body: &body, timestamp: 0, index });
+        }
+    }
+}
+
+/// Attributes of 65,535 octets fit their length, with room or without; one more does not.
+fn long_attributes(put: Put) {
+    let body = make::rib_head(5, 8, 10, 0);
+    for length in [65_534, 65_535, 65_536] {
+        for room in [0, 8 + length - 1, 8 + length] {
+            add(put, &[&body[..], &vec![0xaa; room]].concat(), body.len(), 2, 0, &vec![7; length]);
+        }
+    }
+    for length in [65_534, 65_535] {
+        let entry = make::rib_entry(4, 1, &vec![7; length]);
+        let body = [make::rib_head(1, 0, 0, 1), entry].concat();
+        whole(put, 4, &body);
+        whole(put, 4, &body[..body.len() - 1]);
+    }
+}

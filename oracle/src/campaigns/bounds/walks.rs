@@ -1,0 +1,57 @@
+//! Walks over short streams, with every window and number of confirmations, and single calls from every kind of place.
+
+use super::super::{Put, ASKED, WINDOWS};
+use crate::answers::Walk;
+use crate::make;
+use crate::question::Question;
+
+pub fn run(put: Put) {
+    for stream in streams() {
+        for window in WINDOWS {
+            for asked in ASKED {
+                put(&Question::Walk { stream: &stream, window, asked });
+            }
+        }
+        places(put, &stream);
+    }
+    for length in [1, 5, 6, 7, 8, 11, 12, 13] {
+        for window in [0, 1, 2, 7] {
+            put(&Question::Walk { stream: &vec![0; length], window, asked: 1 });
+        }
+    }
+}
+
+/// One for each way to go on: by the record's own end, by a scan of each evidence, to the end, and not at all.
+fn streams() -> Vec<Vec<u8>> {
+    let state = make::record(16, 0, &make::state_change_body(0, 1));
+    let message = make::timed_record(17, 1, 999_999, &make::message_body(1, 1, 4, 19));
+    let late = make::timed_record(17, 1, 1_000_000, &make::message_body(1, 1, 4, 19));
+    let legacy = make::record(5, 3, &[0; 10]);
+    let table = make::record(13, 1, &[0; 8]);
+    let broken = make::record(13, 1, &[0; 7]);
+    let torn = vec![0; 5];
+    vec![
+        Vec::new(),
+        [&state[..], &broken, &state].concat(),
+        [&broken[..], &state, &table].concat(),
+        [&torn[..], &state, &message, &state].concat(),
+        [&torn[..], &message, &state, &legacy].concat(),
+        [&torn[..], &legacy, &legacy].concat(),
+        [&torn[..], &table, &state].concat(),
+        [&broken[..], &torn, &late, &message].concat(),
+        [&state[..], &make::header(0, 16, 0, 40), &[0; 3]].concat(),
+        [make::header(0, 14, 0, 0), state.repeat(2)].concat(),
+    ]
+}
+
+/// Calls at, before and beyond the end, finished and not.
+fn places(put: Put, stream: &[u8]) {
+    let n = stream.len();
+    for position in [0, 1, n.saturating_sub(12), n.saturating_sub(1), n, n + 1, usize::MAX] {
+        for finished in [false, true] {
+            for window in [0, 7, usize::MAX] {
+                put(&Question::Step { stream, walk: Walk { position, finished }, window, asked: 1 });
+            }
+        }
+    }
+}
