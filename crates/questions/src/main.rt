@@ -7,6 +7,7 @@ mod ribs;
 mod text;
 mod walks;
 
+ghost use Rattle.io.specs.Counts.{Counts};
 use crate::put::sum;
 use libc::STDOUT_FILENO;
 
@@ -37,23 +38,27 @@ fn replay_lists(words: usize, list: &mut [u8], rec: &mut [u8], out: &mut [u8]) {
     }
 }
 
-// The list of argument i. One that is not there has no line.
 fn replay_list(i: usize, list: &mut [u8], rec: &mut [u8], out: &mut [u8]) {
-    let mut path = io::buffer();
-    let length = os::arg(i, &mut path);
-    let name = &path[..length];
-    let file = os::open_read(name);
-    let n = io::read_full(file, list);
-    libc::close(file);
-    io::write_all(STDOUT_FILENO, name);
-    if list.len() <= n {
-        io::write_all(STDOUT_FILENO, b" is too long\n");
-        return;
-    }
+    let n = read_list(i, list);
     let lines = ask_lines(&list[..n], rec, out);
     io::write_all(STDOUT_FILENO, b" ");
     io::print_decimal(STDOUT_FILENO, lines as u64);
     io::write_all(STDOUT_FILENO, b"\n");
+}
+
+// Writes the name of the list of argument i, and reads it. One that is not there has no line, and one that is longer than
+// its room loses what has none: its last line, if not its count, is then wrong.
+fn read_list(i: usize, list: &mut [u8]) -> usize
+    ensures { λ r. ⌜ Counts r (now (list .exit)) ⌝ }
+{
+    let mut path = io::buffer();
+    let length = os::arg(i, &mut path);
+    let name = &path[..length];
+    io::write_all(STDOUT_FILENO, name);
+    let file = os::open_read(name);
+    let n = io::read_full(file, list);
+    libc::close(file);
+    n
 }
 
 // Each line of a list: those that are answered otherwise are named, and the answer is how many lines there are.
