@@ -2,8 +2,8 @@
 use Prim.Native.Nat.{ℕ, zero, suc, _+_, _-_, _<_, _≤_}
 use mathlib.Core.Path.{_≡_, refl, sym, _∙_, ap}
 use mathlib.Core.List.{List, [], _∷_, _++_, append-assoc}
-use mathlib.Core.Bool.{Bool, true, false, _&&_}
-use native.Mathlib.Nat.{zero-add, suc-add}
+use mathlib.Core.Bool.{true, false, _&&_, and-true, and-false}
+use native.Mathlib.Nat.{zero-add}
 use native.Mathlib.Numerals.{add-one}
 use native.Mathlib.Omega.{arith}
 use borrow.Author.Tests.{eq-eqb, ne-eqb}
@@ -64,29 +64,22 @@ pub written-all : (s l : List ℕ) (at : ℕ) {t : List ℕ} {i n : ℕ} → i �
 written-all s l at {t} {i} {n} h k e = let z : i ≡ n = omega arith in rw z at e
 
 -- ---- comparing: the first i octets are the same
-pub same-none : (a b : List ℕ) → sameOctets 0 a b ≡ true
-unfolding sameOctets
-same-none a b = refl
-
-module _ (a b : List ℕ) (i : ℕ) where
-  more : sameOctets i a b && eqb (getD a i 0) (getD b i 0) ≡ sameOctets (i + 1) a b
+module _ (a b : List ℕ) where
+  more : (i : ℕ) → sameOctets (i + 1) a b ≡ sameOctets i a b && eqb (getD a i 0) (getD b i 0)
   unfolding sameOctets
-  more = rw add-one
+  more i = rw add-one
 
-  pub same-turn : sameOctets i a b ≡ true → getD a i 0 ≡ getD b i 0 → sameOctets (i + 1) a b ≡ true
-  same-turn s e = sym more ∙ simp (s, eq-eqb _ _ e)
+  -- the octets from i on are the same
+  module _ (n i : ℕ) (s : sameOctets n a b ≡ sameOctets i a b) where
+    before : 0 < i → sameOctets n a b ≡ sameOctets (i - 1) a b && eqb (getD a (i - 1) 0) (getD b (i - 1) 0)
+    before l = let k : i ≡ i - 1 + 1 = omega arith in s ∙ ap (λ (m : ℕ). sameOctets m a b) k ∙ more (i - 1)
 
-  pub same-all : {n : ℕ} → i ≤ n → n ≤ i → sameOctets i a b ≡ true → true ≡ sameOctets n a b
-  same-all {n} h k e = let z : i ≡ n = omega arith in sym (rw z at e)
+    pub same-turn : 0 < i → getD a (i - 1) 0 ≡ getD b (i - 1) 0 → sameOctets n a b ≡ sameOctets (i - 1) a b
+    same-turn l e = before l ∙ simp (eq-eqb _ _ e, and-true)
 
-  -- a difference stays
-  stays : (m k : ℕ) → sameOctets m a b ≡ false → sameOctets (k + m) a b ≡ false
-  unfolding sameOctets
-  stays m zero f = rw zero-add f
-  stays m (suc k) f = rw suc-add (simp (stays m k f))
+    pub differs : 0 < i → (getD a (i - 1) 0 ≡ getD b (i - 1) 0 → ⊥) → false ≡ sameOctets n a b
+    differs l e = sym (before l ∙ simp (ne-eqb _ _ e, and-false))
 
-  pub differs : (n : ℕ) → i < n → sameOctets i a b ≡ true → (getD a i 0 ≡ getD b i 0 → ⊥) → false ≡ sameOctets n a b
-  differs n h s e =
-      let f : sameOctets (i + 1) a b ≡ false = sym more ∙ simp (s, ne-eqb _ _ e) in
-      let k : n - (i + 1) + (i + 1) ≡ n = omega arith in
-      sym (stays (i + 1) (n - (i + 1)) f) ∙ ap (λ (m : ℕ). sameOctets m a b) k
+    pub same-all : i ≤ 0 → true ≡ sameOctets n a b
+    unfolding sameOctets
+    same-all l = let z : i ≡ 0 = omega arith in sym (s ∙ ap (λ (m : ℕ). sameOctets m a b) z)

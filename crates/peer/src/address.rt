@@ -54,17 +54,17 @@ pub fn stored_peer(p: Peer) -> Peer
     }
 }
 
-// Whether two addresses have the same first n octets.
+// Whether two addresses have the same first n octets. The last ones differ most, so they are looked at first.
 fn same_octets(a: [u8; 16], b: [u8; 16], n: usize) -> bool
     requires { ⌜ n ≤ 16 ⌝ }
     ensures { λ r. ⌜ r ≡ sameOctets n a b ⌝ }
 {
-    let mut i = 0;
-    while i < n {
+    let mut i = n;
+    while 0 < i {
+        i -= 1;
         if a[i] != b[i] {
             return false;
         }
-        i += 1;
     }
     true
 }
