@@ -18,6 +18,7 @@ pub fn run(put: Put) {
             whole(put, subtype, &make::rib_head(1, bits, 0xff, 0));
         }
     }
+    after_the_last(put);
     ages(put);
     for subtype in [0, 1, 2, 3, 5, 6, 9, 10, 12] {
         begins(put, subtype);
@@ -52,6 +53,15 @@ fn cut(put: Put, subtype: u16, bits: u8) {
         for length in [0, head.len() - 1, head.len() + first.len(), n - 2, n - 1] {
             entries(put, subtype, &body[..length]);
         }
+    }
+}
+
+/// What reads as an entry after the declared ones is none.
+fn after_the_last(put: Put) {
+    for subtype in make::RIBS {
+        let body = [make::rib_head(1, 8, 10, 1), make::rib_entry(subtype, 1, &[5]).repeat(2)].concat();
+        whole(put, subtype, &body);
+        entries(put, subtype, &body);
     }
 }
 
@@ -106,13 +116,14 @@ fn adds(put: Put, subtype: u16) {
 fn broken(put: Put) {
     for subtype in [1, 2, 10, 12] {
         let body = [make::rib_head(5, 8, 10, 2), make::rib_entry(subtype, 1, &[]).repeat(2)].concat();
-        let n = body.len();
+        let (n, size) = (body.len(), make::rib_entry(subtype, 1, &[]).len());
         let mut wide = body.clone();
         wide[4] = 129;
         for room in [0, 40] {
             let buffer = [&body[..], &vec![0xaa; room]].concat();
-            for length in [0, 7, 8, n - 1, n, n + room.min(1)] {
+            for length in [0, 7, 8, n - size, n - 1, n, n + room.min(1)] {
                 add(put, &buffer, length, subtype, 1, &[]);
+                add(put, &buffer, length, subtype, 0, &[]);
             }
             add(put, &[&wide[..], &vec![0xaa; room]].concat(), n, subtype, 1, &[]);
         }
