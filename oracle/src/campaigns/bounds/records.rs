@@ -98,6 +98,12 @@ fn markers(put: Put) {
     for length in [0, 7, 8, 15, 16, 34, 35] {
         all_about(put, &make::record(16, 1, &body[..length]));
     }
+    // an UPDATE that says one octet fewer than it has, as many, and one more
+    for said in [29, 30, 31] {
+        let mut update = make::message_body(1, 1, 2, 30);
+        update[33] = said;
+        all_about(put, &make::record(16, 1, &update));
+    }
 }
 
 fn microseconds(put: Put) {
