@@ -60,15 +60,15 @@ module _ (slots count : ℕ) where
 
 -- ---- one turn of a lookup
 module _ (best : Finding) (i : ℕ) (p key : Peer) where
-  pub judge-late : 65535 < i → best ≡ judged best i p key
+  pub judge-late : 65535 < i → (best, i) ≡ judged best i p key
   unfolding judged
   judge-late h = simp (lt-leb _ _ h)
 
-  pub judge-hit : i ≤ 65535 → {t : Bool} → t ≡ sameAddress p key → t ≡ true → found i ≡ judged best i p key
+  pub judge-hit : i ≤ 65535 → {t : Bool} → t ≡ sameAddress p key → t ≡ true → (found i, 0) ≡ judged best i p key
   unfolding judged
   judge-hit h s t = simp (le-leb _ _ h, sym s ∙ t)
 
-  pub judge-miss : i ≤ 65535 → {t : Bool} → t ≡ sameAddress p key → t ≡ false → best ≡ judged best i p key
+  pub judge-miss : i ≤ 65535 → {t : Bool} → t ≡ sameAddress p key → t ≡ false → (best, i) ≡ judged best i p key
   unfolding judged
   judge-miss h s t = simp (le-leb _ _ h, sym s ∙ t)
 

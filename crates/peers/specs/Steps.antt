@@ -20,9 +20,9 @@ use Rattle.peers.specs.declared.Start.{Start}
 unfoldable pub inUse : ℕ → ℕ → ℕ
 inUse slots count = cond (wrongCount slots count) 0 count
 
--- the best id so far, after slot i with the peer p
-unfoldable pub judged : Finding → ℕ → Peer → Peer → Finding
-judged best i p key = cond (leb i 65535 && sameAddress p key) (found i) best
+-- the answer after slot i with the peer p, and how many slots are left to look at: none where p holds the address
+unfoldable pub judged : Finding → ℕ → Peer → Peer → Finding × ℕ
+judged best i p key = cond (leb i 65535 && sameAddress p key) (found i, 0) (best, i)
 
 -- the answer to a peer whose address is not known, and the slot to write, which is beyond the slots where there is none
 unfoldable pub newPlace : ℕ → ℕ → Adding × ℕ

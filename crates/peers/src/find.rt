@@ -26,14 +26,13 @@ pub fn peer_at(slots: &[Peer], count: usize, id: usize) -> PeerAnswer
 pub(crate) fn look_up(slots: &[Peer], count: usize, key: Peer) -> FindAnswer
     ensures { λ r. ⌜ finding r ≡ lookUp (now (slots .entry)) count key ⌝ }
 {
-    let search = begin_search(slots.len(), count);
-    let mut best = search.best;
-    let mut i: usize = 0;
-    while i < search.count {
-        best = judge(best, i, slots[i], key);
-        i += 1;
+    let mut search = begin_search(slots.len(), count);
+    while 0 < search.count {
+        let i = search.count - 1;
+        let next = judge(search.best, i, slots[i], key);
+        search = next;
     }
-    best
+    search.best
 }
 
 // The highest id that holds an address, given by its family and its octets.

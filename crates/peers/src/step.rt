@@ -78,17 +78,21 @@ pub(crate) fn begin_search(slots: usize, count: usize) -> Search
     }
 }
 
-// One turn of a lookup: a later slot is better. An id above 65,535 is never asked for: no count is.
-pub(crate) fn judge(best: FindAnswer, i: usize, p: Peer, key: Peer) -> FindAnswer
-    ensures { λ r. ⌜ finding r ≡ judged (finding best) i p key ⌝ }
+// One turn of a lookup, from the last slot on: the first that holds the address is the highest, and leaves none to look at. An
+// id above 65,535 is never asked for: no count is.
+pub(crate) fn judge(best: FindAnswer, i: usize, p: Peer, key: Peer) -> Search
+    ensures { λ r. ⌜ (finding (r .best), r .count) ≡ judged (finding best) i p key ⌝ }
 {
     if 65535 < i {
-        return best;
+        return Search { best, count: i };
     }
     if peer::same_address(p, key) {
-        return FindAnswer::Id(i as u16);
+        return Search {
+            best: FindAnswer::Id(i as u16),
+            count: 0,
+        };
     }
-    best
+    Search { best, count: i }
 }
 
 // The check of a body, and what of it goes into slots.

@@ -1,7 +1,7 @@
 -- `peers::look_up` meets its contract: a walk of its MIR, by hand, with a loop that reads. The slots are looked into once, before
 -- the loop, and shut after it; a turn copies one slot out, puts it back as it was, and asks `judge`. Assumes nothing.
 use mathlib.Core.Path.{_≡_, refl, sym, _∙_, ap, subst}
-use Prim.Native.Nat.{ℕ, _+_, _-_, _*_, _<_, _≤_, _^_}
+use Prim.Native.Nat.{ℕ, suc, _+_, _-_, _*_, _<_, _≤_, _^_}
 use mathlib.Core.Bool.{Bool, true, false}
 use mathlib.Core.List.{[], _∷_, List}
 use mathlib.Core.WellFounded.{WellFounded, InvImage·wf}
@@ -54,12 +54,12 @@ use Rattle.peer.specs.Peer.{nobody}
 use Rattle.peer.specs.declared.Peer.{Peer}
 use Rattle.peer.proofs.Peer as T
 use Rattle.peer.proofs.Peer.Laws as T′
-use Rattle.peers.specs.Find.{finding, lost, highest, lookUp}
+use Rattle.peers.specs.Find.{Finding, finding, lost, highest, lookUp}
 use Rattle.peers.specs.Steps.{inUse, judged}
 use Rattle.peers.specs.declared.FindAnswer.{FindAnswer}
 use Rattle.peers.specs.declared.Search.{Search}
 use Rattle.peers.proofs.Shape.{stride, vals, low, word, sharedSlots}
-use Rattle.peers.proofs.Slots.{used-le, highest-none, highest-turn, highest-done}
+use Rattle.peers.proofs.Slots.{used-le, Pending, looking, pending-turn, turn-less, pending-done}
 use Rattle.peers.proofs.FindAnswer as F
 use Rattle.peers.proofs.FindAnswer.Laws as F′
 use Rattle.peers.proofs.Search as S
@@ -154,15 +154,15 @@ module _ {M : Type 1} (𝓤 : URA M) (H : Heap 𝓤) (A : Atoms 𝓤) (W : Given
   abbrev to : FindAnswer → ℕ → Judge 𝓤 H A at-mem run .Ghost
   to f i = ((tt, tt, tt, given′ f i, passed f i), tt)
 
-  abbrev judges : FindAnswer → ℕ → FindAnswer → Type 0
-  judges f i r = finding r ≡ judged (finding f) i (getD ys i nobody) key
+  abbrev judges : FindAnswer → ℕ → Search → Type 0
+  judges f i r = _≡_ {A = Finding × ℕ} (finding (r .best), r .count) (judged (finding f) i (getD ys i nobody) key)
 
   asked : (f : FindAnswer) (i : ℕ) → ent 𝓤 (sep 𝓤 (sem 𝓤 H A ftrue) (sem 𝓤 H A (owns (F.the-row ∷ usize ∷ T.the-row ∷ T.the-row
       ∷ []) (given′ f i) (passed f i)))) (Judge 𝓤 H A at-mem run .pre (to f i))
   asked f i = qed W (‵ ftrue ∷ ‵ (owns (F.the-row ∷ usize ∷ T.the-row ∷ T.the-row ∷ []) (given′ f i) (passed f i)) ∷ []) ∵ join ! $
       frame ! $ done !
 
-  said : (f : FindAnswer) (i : ℕ) (r : FindAnswer)
+  said : (f : FindAnswer) (i : ℕ) (r : Search)
       → ent 𝓤 (ensured 𝓤 H A judge′.ended (judge′.clauses 𝓤 H A at-mem run) tt (given′ f i) tt r) (fact 𝓤 (judges f i r))
   said f i r = exE 𝓤 _ (λ ws. snd∗ 𝓤 (sem 𝓤 H A (lasts judge′.ended tt (given′ f i) ws)) (fact 𝓤 (judges f i r)))
 
@@ -180,21 +180,27 @@ module _ {M : Type 1} (𝓤 : URA M) (H : Heap 𝓤) (A : Atoms 𝓤) (W : Given
       owned ! F.the-row (Is F.the-row) (EL.makes F.the-type F′.the-plain 𝓤 H A) f _ isF $ move ! (1 ∷ 0 ∷ []) $ done !
 
   -- ---- the loop, after `begin_search` answered g
-  module _ (g : Search) (isG : Is F.the-row (g .best) (lowF (g .best) ∷ [])) (g-fits : g .count < 2 ^ 64) (g-is : begins g) where
+  module _ (g : Search) (isG : Is S.the-row g (lowS g ∷ [])) (g-is : begins g) where
     abbrev m : ℕ
     m = g .count
 
     abbrev State : Type 0
-    State = (i : ℕ) × (f : FindAnswer) × (i ≤ m) × (Is F.the-row f (lowF f ∷ [])) × (finding f ≡ highest key ys i)
+    State = (r : Search) × (r .count ≤ m) × (Is S.the-row r (lowS r ∷ [])) × Pending key ys count m (r .count) (finding (r .best))
 
     abbrev start : State
-    start = (0, g .best, omega arith, isG, highest-none key ys count (g-is .0))
+    start = (g, omega arith, isG, looking (g-is .0) refl)
 
     abbrev Nearer : State → State → Type 0
-    Nearer t′ t = m - t′ .0 < m - t .0
+    Nearer t′ t = t′ .0 .count < t .0 .count
 
     Nearer-wf : WellFounded Nearer
-    Nearer-wf = InvImage·wf (λ (t : State). m - t .0) (Nat·lt-wfRel .wf)
+    Nearer-wf = InvImage·wf (λ (t : State). t .0 .count) (Nat·lt-wfRel .wf)
+
+    abbrev isBest : (t : State) → Is F.the-row (t .0 .best) (lowF (t .0 .best) ∷ [])
+    isBest t = LL.owed S.the-type S′.the-laws (t .0) (lowS (t .0) ∷ []) (t .2) .0
+
+    abbrev count-small : (t : State) → t .0 .count < 2 ^ 64
+    count-small t = LL.owed S.the-type S′.the-laws (t .0) (lowS (t .0) ∷ []) (t .2) .1 .0 .1
 
     module _ (𝓣 : Tables 𝓤 H) (fm : FmC 𝓤 H (W .laws) (𝓣 .C)) (known : Triple 𝓤 (𝓣 .C #judge) (Judge 𝓤 H A at-mem run)) (q′ : Share)
         (l₀ l₁ l₂ l₃ l₄ l₅ l₆ l₇ l₈ l₉ l₁₀ l₁₁ : ℕ) where
@@ -205,7 +211,7 @@ module _ {M : Type 1} (𝓤 : URA M) (H : Heap 𝓤) (A : Atoms 𝓤) (W : Given
       Λ = 𝓣 .Λ
 
       abbrev En : Env 𝓤 H
-      En = (F′.mir, l₀) ∷ (sharedSlots 0, l₁) ∷ (word, l₂) ∷ (T′.mir, l₃) ∷ (S′.mir, l₄) ∷ (F′.mir, l₅) ∷ (word, l₆) ∷ (word, l₇)
+      En = (F′.mir, l₀) ∷ (sharedSlots 0, l₁) ∷ (word, l₂) ∷ (T′.mir, l₃) ∷ (S′.mir, l₄) ∷ (word, l₅) ∷ (S′.mir, l₆) ∷ (word, l₇)
           ∷ (tyBool, l₈) ∷ (word, l₉) ∷ (tyPtr, l₁₀) ∷ (T′.mir, l₁₁) ∷ []
 
       -- [a share of the slots; what shuts; what the slots own; the locals]
@@ -214,94 +220,104 @@ module _ {M : Type 1} (𝓤 : URA M) (H : Heap 𝓤) (A : Atoms 𝓤) (W : Given
           ∷ ‵ (froom T′.mir l₁₁ 0) ∷ ‵ (fdies T′.mir l₁₁) ∷ ‵ (froom tyPtr l₁₀ 0) ∷ ‵ (fdies tyPtr l₁₀) ∷ ‵ (froom word l₉ 0)
           ∷ ‵ (fdies word l₉)
           ∷ ‵ (froom tyBool l₈ 0) ∷ ‵ (fdies tyBool l₈) ∷ ‵ (fat fullShare word l₇ 0 (vint w64 n)) ∷ ‵ (fdies word l₇)
-          ∷ ‵ (fat fullShare word l₆ 0 (vint w64 (t .0))) ∷ ‵ (fdies word l₆) ∷ ‵ (fat fullShare F′.mir l₅ 0 (lowF (t .1)))
-          ∷ ‵ (fdies F′.mir l₅)
-          ∷ ‵ (fat fullShare S′.mir l₄ 0 (lowS g)) ∷ ‵ (fdies S′.mir l₄) ∷ ‵ (fat fullShare T′.mir l₃ 0 (low key)) ∷ ‵ (fdies T′.mir l₃)
+          ∷ ‵ (froom S′.mir l₆ 0) ∷ ‵ (fdies S′.mir l₆) ∷ ‵ (froom word l₅ 0) ∷ ‵ (fdies word l₅)
+          ∷ ‵ (fat fullShare S′.mir l₄ 0 (lowS (t .0))) ∷ ‵ (fdies S′.mir l₄) ∷ ‵ (fat fullShare T′.mir l₃ 0 (low key)) ∷ ‵ (fdies T′.mir l₃)
           ∷ ‵ (fat fullShare word l₂ 0 (vint w64 count)) ∷ ‵ (fdies word l₂) ∷ ‵ (fat fullShare (sharedSlots 0) l₁ 0 v)
           ∷ ‵ (fdies (sharedSlots 0) l₁)
           ∷ ‵ (froom F′.mir l₀ 0) ∷ ‵ (fdies F′.mir l₀) ∷ []
 
       abbrev Turned : State → Out → SProp 𝓤
-      Turned t = afterTurn 𝓤 H (Below 𝓤 H A Nearer At t) (afterBlock 𝓤 H (afterSeq 𝓤 H (Wp 𝓤 H C Λ En mirs.t-6 (atReturn 𝓤 H En Post))
+      Turned t = afterTurn 𝓤 H (Below 𝓤 H A Nearer At t) (afterBlock 𝓤 H (afterSeq 𝓤 H (Wp 𝓤 H C Λ En mirs.t-4 (atReturn 𝓤 H En Post))
           (atReturn 𝓤 H En Post)))
 
-      leaves : (t : State) → ltb (t .0) m ≡ false → Sq W (At t) (runs C Λ En mirs.turn-1 (anyQ (Turned t)))
+      leaves : (t : State) → ltb 0 (t .0 .count) ≡ false → Sq W (At t) (runs C Λ En mirs.turn-1 (anyQ (Turned t)))
       unfolding afterTurn
       leaves t e =
-          assigns ! (bin ! (load ! (from ! (stop !)) (look ! 13 refl)) (load ! (from ! (fld ! refl (stop !))) (look-in ! 17 (sub ! 1 refl
-          (whole !)))) tt) (from ! (stop !)) (init ! 9 refl (tt, tt)) $
+          let none : t .0 .count ≡ 0 = let z : t .0 .count ≤ 0 = ltb-false _ _ e in omega arith in
+          assigns ! (bin ! (lit ! tt) (load ! (from ! (fld ! refl (stop !))) (look-in ! 17 (sub ! 1 refl (whole !)))) tt) (from ! (stop !))
+          (init ! 9 refl (tt, tt)) $
           rewrite ! 9 (λ (z : Bool). ‵ (fat fullShare tyBool l₈ 0 (vbool z))) e refl $
-          leaves-loop ! (load ! (from ! (stop !)) (look ! 9 refl)) $ exec ! C Λ En mirs.t-6 (atRet En Post) $
-          assigns ! (of-opd ! (load ! (from ! (stop !)) (look ! 15 refl))) (from ! (stop !)) (init ! 25 refl
-          (EL.lawful F.the-type F′.the-laws 𝓤 H A W tt .typed (t .1) _ (t .3) .0)) $
+          leaves-loop ! (load ! (from ! (stop !)) (look ! 9 refl)) $ exec ! C Λ En mirs.t-4 (atRet En Post) $
+          assigns ! (of-opd ! (load ! (from ! (fld ! refl (stop !))) (look-in ! 17 (sub ! 0 refl (whole !))))) (from ! (stop !)) (init ! 25 refl
+          (EL.lawful F.the-type F′.the-laws 𝓤 H A W tt .typed (t .0 .best) _ (isBest t) .0)) $
           shuts-slice ! tt T.the-row q′ ys b o $
-          returns ! (look ! 24 refl) $ forget ! 8 refl $ forget ! 10 refl $ forget ! 12 refl $ forget ! 14 refl $ forget ! 16 refl $
+          returns ! (look ! 24 refl) $ forget ! 8 refl $ forget ! 10 refl $ forget ! 16 refl $
           forget ! 18 refl $ forget ! 20 refl $ forget ! 22 refl $ forget ! 24 refl $
           move ! (24 ∷ 25 ∷ []) $ free1 ! $ move ! (22 ∷ 23 ∷ []) $ free1 ! $ move ! (20 ∷ 21 ∷ []) $ free1 ! $ move ! (18 ∷ 19 ∷ []) $
           free1 ! $ move ! (16 ∷ 17 ∷ []) $ free1 ! $ move ! (14 ∷ 15 ∷ []) $ free1 ! $ move ! (12 ∷ 13 ∷ []) $ free1 ! $ move ! (10
           ∷ 11 ∷ []) $ free1 ! $ move ! (8 ∷ 9 ∷ []) $ free1 ! $ move ! (6 ∷ 7 ∷ []) $ free1 ! $ move ! (4 ∷ 5 ∷ []) $ free1 ! $
           move ! (2 ∷ 3 ∷ []) $ free1 ! $ free0 ! $
-          by ! (exits (t .1) (t .3) (highest-done key ys count (g-is .1) (t .2) (ltb-false _ _ e) (t .4)))
+          by ! (exits (t .0 .best) (isBest t) (pending-done key ys count (g-is .1) none (t .3)))
 
-      abbrev next : (t : State) → t .0 < m → (r : FindAnswer) → Is F.the-row r (lowF r ∷ []) → judges (t .1) (t .0) r → State
-      next t less r isF e = (t .0 + 1, r, omega arith, isF, highest-turn key ys count (g-is .1) less (t .4) e)
+      abbrev next : (t : State) (i : ℕ) → t .0 .count ≡ suc i → (r : Search) → Is S.the-row r (lowS r ∷ []) → judges (t .0 .best) i r → State
+      next t i z r isR e = (
+        r,
+        let l = turn-less key ys count i (finding (t .0 .best)) (getD ys i nobody) e in omega (arith, t .1, l),
+        isR,
+        pending-turn key ys count (g-is .1) z (t .1) (t .3) e,
+      )
 
-      goes-on : (t : State) → ltb (t .0) m ≡ true → Sq W (At t) (runs C Λ En mirs.turn-1 (anyQ (Turned t)))
+      goes-on : (t : State) → ltb 0 (t .0 .count) ≡ true → Sq W (At t) (runs C Λ En mirs.turn-1 (anyQ (Turned t)))
       unfolding afterTurn
       goes-on t e =
-          let less : t .0 < m = ltb-true _ _ e in
-          let within : t .0 < n = omega (arith, used-le n count (g-is .1)) in
-          let scaled : t .0 * stride < 2 ^ 64 = omega (arith, room .1) in
-          let more : t .0 + 1 < 2 ^ 64 = omega arith in
-          let elem : Peer = getD ys (t .0) nobody in
-          assigns ! (bin ! (load ! (from ! (stop !)) (look ! 13 refl)) (load ! (from ! (fld ! refl (stop !))) (look-in ! 17 (sub ! 1 refl
-          (whole !)))) tt) (from ! (stop !)) (init ! 9 refl (tt, tt)) $
+          let less : 0 < t .0 .count = ltb-true _ _ e in
+          let i : ℕ = t .0 .count - 1 in
+          let within : i < n = omega (arith, used-le n count (g-is .1), t .1) in
+          let scaled : i * stride < 2 ^ 64 = omega (arith, room .1) in
+          let fits : i < 2 ^ 64 = omega (arith, count-small t) in
+          let elem : Peer = getD ys i nobody in
+          assigns ! (bin ! (lit ! tt) (load ! (from ! (fld ! refl (stop !))) (look-in ! 17 (sub ! 1 refl (whole !)))) tt) (from ! (stop !))
+          (init ! 9 refl (tt, tt)) $
           rewrite ! 9 (λ (z : Bool). ‵ (fat fullShare tyBool l₈ 0 (vbool z))) e refl $ stays ! (load ! (from ! (stop !)) (look ! 9 refl)) $
-          assigns ! (bin ! (load ! (from ! (stop !)) (look ! 13 refl)) (lit ! tt) (record { fits = scaled })) (from ! (stop !))
+          assigns ! (bin ! (load ! (from ! (fld ! refl (stop !))) (look-in ! 17 (sub ! 1 refl (whole !)))) (lit ! tt) less) (from ! (stop !))
+          (init ! 15 refl (tt, record { fits = fits })) $
+          assigns ! (bin ! (load ! (from ! (stop !)) (look ! 15 refl)) (lit ! tt) (record { fits = scaled })) (from ! (stop !))
           (init ! 7 refl (tt, record { fits = scaled })) $
           assigns ! (bin ! (load ! (from ! (fld ! refl (stop !))) (look-in ! 23 (sub ! 0 refl (whole !)))) (load ! (from ! (stop !))
           (look ! 7 refl)) tt) (from ! (stop !)) (init ! 5 refl (tt, tt)) $
-          rewrite ! 5 (λ (z : ℕ). ‵ (fat fullShare tyPtr l₁₀ 0 (vptr b z))) (sym (place-is stride o (t .0))) refl $
-          elem-out ! T.the-row (Is T.the-row) (shows 𝓤 H A T.the-row) vals (LL.tells T.the-type T′.the-laws) q′ ys (t .0) nobody b o within
+          rewrite ! 5 (λ (z : ℕ). ‵ (fat fullShare tyPtr l₁₀ 0 (vptr b z))) (sym (place-is stride o i)) refl $
+          elem-out ! T.the-row (Is T.the-row) (shows 𝓤 H A T.the-row) vals (LL.tells T.the-type T′.the-laws) q′ ys i nobody b o within
           (λ isE.
           -- [the slot; what it owns; the others; what shuts; what the slots own; the locals]
           assigns ! (of-opd ! (load ! (from ! (hop ! (look ! 7 refl) (stop !))) (look-raw ! 0 refl))) (from ! (stop !)) (init ! 5 refl
           (LL.lawful T.the-type T′.the-laws 𝓤 H A W .typed elem _ isE .0)) $
-          elem-back ! T.the-row q′ ys (t .0) nobody (vals elem) b o within $
+          elem-back ! T.the-row q′ ys i nobody (vals elem) b o within $
           nothing ! $ owned ! T.the-row (Is T.the-row) (LL.makes T.the-type T′.the-plain 𝓤 H A) key _ isK $ fjoin ! $
           owned ! T.the-row (Is T.the-row) (LL.makes T.the-type T′.the-plain 𝓤 H A) elem _ isE $ fjoin ! $
-          owned ! usize (Is usize) (uint-makes 𝓤 H A W w64) (t .0) _ (refl, omega arith) $ fjoin ! $
-          owned ! F.the-row (Is F.the-row) (EL.makes F.the-type F′.the-plain 𝓤 H A) (t .1) _ (t .3) $ fjoin ! $ nothing ! $
-          use2 W (raw (Judge 𝓤 H A at-mem run .pre (to (t .1) (t .0)))) (asked (t .1) (t .0)) $
+          owned ! usize (Is usize) (uint-makes 𝓤 H A W w64) i _ (refl, fits) $ fjoin ! $
+          owned ! F.the-row (Is F.the-row) (EL.makes F.the-type F′.the-plain 𝓤 H A) (t .0 .best) _ (isBest t) $ fjoin ! $ nothing ! $
+          use2 W (raw (Judge 𝓤 H A at-mem run .pre (to (t .0 .best) i))) (asked (t .0 .best) i) $
           -- [what is asked; a share of the slots; what shuts; what the slots own; the locals]
-          calls-at ! fm (Judge 𝓤 H A at-mem run) known (to (t .1) (t .0)) (and-then ! (load ! (from ! (stop !)) (look ! 16 refl))
-          (and-then ! (load ! (from ! (stop !)) (look ! 14 refl)) (and-then ! (load ! (from ! (stop !)) (look ! 4 refl)) (and-then !
+          calls-at ! fm (Judge 𝓤 H A at-mem run) known (to (t .0 .best) i) (and-then ! (load ! (from ! (fld ! refl (stop !))) (look-in ! 18
+          (sub ! 0 refl (whole !))))
+          (and-then ! (load ! (from ! (stop !)) (look ! 16 refl)) (and-then ! (load ! (from ! (stop !)) (look ! 4 refl)) (and-then !
           (load ! (from ! (stop !)) (look ! 20 refl)) (no-more !))))) (λ w.
-          use1 W (later (some (λ (r : FindAnswer). (‵ ftrue ⊛ ‵ (F.the-row .own r (w ∷ [])))
-          ⊛ raw (ensured 𝓤 H A judge′.ended (judge′.clauses 𝓤 H A at-mem run) tt (given′ (t .1) (t .0)) tt r)))) (id⊢ 𝓤 _) $
+          use1 W (later (some (λ (r : Search). (‵ ftrue ⊛ ‵ (S.the-row .own r (w ∷ [])))
+          ⊛ raw (ensured 𝓤 H A judge′.ended (judge′.clauses 𝓤 H A at-mem run) tt (given′ (t .0 .best) i) tt r)))) (id⊢ 𝓤 _) $
           await ! tt $ pick ! (λ r.
-          split ! $ move ! (1 ∷ []) $ use1 W (raw (fact 𝓤 (judges (t .1) (t .0) r))) (said (t .1) (t .0) r) $
-          heard ! (judges (t .1) (t .0) r) (λ e′. split ! $ drop ! $
-          peeks ! F.the-row (Is F.the-row) (shows 𝓤 H A F.the-row) r (w ∷ []) (λ is.
-          let told : w ∷ [] ≡ lowF r ∷ [] = EL.tells F.the-type F′.the-laws r (w ∷ []) is in
-          land ! (from ! (stop !)) (store ! 16 refl (EL.lawful F.the-type F′.the-laws 𝓤 H A W tt .typed r _ is .0)) $
-          rewrite ! 16 (λ (y : Val). ‵ (fat fullShare F′.mir l₅ 0 y)) (ap only told) refl $
-          assigns-last ! (bin ! (load ! (from ! (stop !)) (look ! 14 refl)) (lit ! tt) (record { fits = more })) (from ! (stop !))
-          (store ! 14 refl (tt, record { fits = more })) $
-          forget ! 4 refl $ forget ! 6 refl $ forget ! 8 refl $ forget ! 10 refl $
+          split ! $ move ! (1 ∷ []) $ use1 W (raw (fact 𝓤 (judges (t .0 .best) i r))) (said (t .0 .best) i r) $
+          heard ! (judges (t .0 .best) i r) (λ e′. split ! $ drop ! $
+          peeks ! S.the-row (Is S.the-row) (shows 𝓤 H A S.the-row) r (w ∷ []) (λ is.
+          let told : w ∷ [] ≡ lowS r ∷ [] = LL.tells S.the-type S′.the-laws r (w ∷ []) is in
+          land ! (from ! (stop !)) (init ! 14 refl (LL.lawful S.the-type S′.the-laws 𝓤 H A W .typed r _ is .0)) $
+          rewrite ! 14 (λ (y : Val). ‵ (fat fullShare S′.mir l₆ 0 y)) (ap only told) refl $
+          assigns-last ! (of-opd ! (load ! (from ! (stop !)) (look ! 14 refl))) (from ! (stop !)) (store ! 18 refl
+          (LL.lawful S.the-type S′.the-laws 𝓤 H A W .typed r _ (subst (Is S.the-row r) told is) .0)) $
+          forget ! 4 refl $ forget ! 6 refl $ forget ! 8 refl $ forget ! 10 refl $ forget ! 14 refl $ forget ! 16 refl $
           keep ! (1 ∷ 2 ∷ 3 ∷ 4 ∷ 5 ∷ 6 ∷ 7 ∷ 8 ∷ 9 ∷ 10 ∷ 11 ∷ 12 ∷ 13 ∷ 14 ∷ 15 ∷ 16 ∷ 17 ∷ 18 ∷ 19 ∷ 20 ∷ 21 ∷ 22 ∷ 23 ∷ 24 ∷ 25 ∷ 26
           ∷ 27 ∷ []) $
-          again ! Nearer At t (next t less r (subst (Is F.the-row r) told is) e′) (omega arith))))))
+          again ! Nearer At t (next t i (omega arith) r (subst (Is S.the-row r) told is) e′)
+          (let l = turn-less key ys count i (finding (t .0 .best)) (getD ys i nobody) e′ in omega arith))))))
 
       turns : (t : State) → Sq W (At t) (runs C Λ En mirs.turn-1 (anyQ (Turned t)))
-      turns t = case (ltb (t .0) m) refl
+      turns t = case (ltb 0 (t .0 .count)) refl
         where
-          case : (z : Bool) → ltb (t .0) m ≡ z → Sq W (At t) (runs C Λ En mirs.turn-1 (anyQ (Turned t)))
+          case : (z : Bool) → ltb 0 (t .0 .count) ≡ z → Sq W (At t) (runs C Λ En mirs.turn-1 (anyQ (Turned t)))
           case true e = goes-on t e
           case false e = leaves t e
 
       -- the loop, and the rest of the body
-      looped : Sq W (At start) (runs C Λ En mirs.t-5 (atRet En Post))
+      looped : Sq W (At start) (runs C Λ En mirs.t-3 (atRet En Post))
       looped = first ! $ blocks ! $ loops ! 𝓣 Nearer Nearer-wf At turns start
 
   walk : (𝓣 : Tables 𝓤 H) (fm : FmC 𝓤 H (W .laws) (𝓣 .C)) → Triple 𝓤 (𝓣 .C #begin) (Begin 𝓤 H A at-mem run)
@@ -329,13 +345,8 @@ module _ {M : Type 1} (𝓤 : URA M) (H : Heap 𝓤) (A : Atoms 𝓤) (W : Given
       split ! $ move ! (1 ∷ []) $ use1 W (raw (fact 𝓤 (begins g))) (saidB g) $ heard ! (begins g) (λ g-is. split ! $ drop ! $
       peeks ! S.the-row (Is S.the-row) (shows 𝓤 H A S.the-row) g (w ∷ []) (λ is.
       let told : w ∷ [] ≡ lowS g ∷ [] = LL.tells S.the-type S′.the-laws g (w ∷ []) is in
-      let isG : Is F.the-row (g .best) (lowF (g .best) ∷ []) = LL.owed S.the-type S′.the-laws g (w ∷ []) is .0 in
-      let g-fits : g .count < 2 ^ 64 = LL.owed S.the-type S′.the-laws g (w ∷ []) is .1 .0 .1 in
       land ! (from ! (stop !)) (init ! 15 refl (LL.lawful S.the-type S′.the-laws 𝓤 H A W .typed g _ is .0)) $
       rewrite ! 15 (λ (z : Val). ‵ (fat fullShare S′.mir l₄ 0 z)) (ap only told) refl $ drop ! $
-      assigns ! (of-opd ! (load ! (from ! (fld ! refl (stop !))) (look-in ! 14 (sub ! 0 refl (whole !))))) (from ! (stop !)) (init ! 12 refl
-      (EL.lawful F.the-type F′.the-laws 𝓤 H A W tt .typed (g .best) _ isG .0)) $
-      assigns ! (of-opd ! (lit ! tt)) (from ! (stop !)) (init ! 10 refl (tt, record { fits = lit< tt })) $
       move ! (25 ∷ []) $ fsplit ! $ use1 W (‵ Own ⊛ ‵ Own) (shr-slice-copy 𝓤 H A W (named 0) κ T.the-row .twice s (v ∷ [])) $ split ! $
       fsplit ! $ drop ! $ fsplit ! $ drop ! $
       -- [the shared borrow; what the slots own; what count and key own; the locals; the token]
@@ -345,7 +356,7 @@ module _ {M : Type 1} (𝓤 : URA M) (H : Heap 𝓤) (A : Atoms 𝓤) (W : Given
       -- [a share of the slots; what shuts; the shared borrow; true; what the slots own; what count and key own; the locals]
       keep ! (0 ∷ 1 ∷ 4 ∷ 6 ∷ 7 ∷ 8 ∷ 9 ∷ 10 ∷ 11 ∷ 12 ∷ 13 ∷ 14 ∷ 15 ∷ 16 ∷ 17 ∷ 18 ∷ 19 ∷ 20 ∷ 21 ∷ 22 ∷ 23 ∷ 24 ∷ 25 ∷ 26 ∷ 27 ∷ 28 ∷ 29
       ∷ []) $
-      looped g isG g-fits g-is 𝓣 fm known q′ l₀ l₁ l₂ l₃ l₄ l₅ l₆ l₇ l₈ l₉ l₁₀ l₁₁)))))))))))))))))
+      looped g (subst (Is S.the-row g) told is) g-is 𝓣 fm known q′ l₀ l₁ l₂ l₃ l₄ l₅ l₆ l₇ l₈ l₉ l₁₀ l₁₁)))))))))))))))))
 
 module _ {M : Type 1} (𝓤 : URA M) (H : Heap 𝓤) (A : Atoms 𝓤) (W : Given 𝓤 H A) (mem : Memory → SProp 𝓤) (run : Routine → Fun 𝓤) where
   look-walks : (𝓣 : Tables 𝓤 H) → FmC 𝓤 H (W .laws) (𝓣 .C) → Triple 𝓤 (𝓣 .C #begin) (Begin 𝓤 H A mem run)
