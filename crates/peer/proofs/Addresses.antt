@@ -1,15 +1,15 @@
 -- Octets of an address: read one by one into sixteen, written one by one, and compared.
-use Prim.Native.Nat.{ℕ, zero, suc, _+_, _-_, _<_, _≤_}
+use Prim.Native.Nat.{ℕ, zero, suc, _+_, _-_, _*_, _<_, _≤_}
 use mathlib.Core.Path.{_≡_, refl, sym, _∙_, ap}
 use mathlib.Core.List.{List, [], _∷_, _++_, append-assoc}
-use mathlib.Core.Bool.{true, false, _&&_, and-true, and-false}
+use mathlib.Core.Bool.{Bool, true, false, _&&_, and-true, and-false}
 use native.Mathlib.Nat.{zero-add}
 use native.Mathlib.Numerals.{add-one}
 use native.Mathlib.Omega.{arith}
-use borrow.Author.Tests.{eq-eqb, ne-eqb}
+use borrow.Author.Tests.{eq-eqb, ne-eqb, eqb-true}
 use lib.ListN.{length, getD, set, take, drop, replicate, length-append, length-replicate}
 use lib.Dec.{eqb}
-use Rattle.octets.specs.Octets.{patch}
+use Rattle.octets.specs.Octets.{beAt, patch}
 use Rattle.octets.proofs.Stores.{stores}
 use Rattle.peer.specs.Peer.{octetsAt, addressAt, sameOctets}
 
@@ -83,3 +83,35 @@ module _ (a b : List ℕ) where
     pub same-all : i ≤ 0 → true ≡ sameOctets n a b
     unfolding sameOctets
     same-all l = let z : i ≡ 0 = omega arith in sym (s ∙ ap (λ (m : ℕ). sameOctets m a b) z)
+
+  -- the same octets are the same number, over the width
+  both : (x y : Bool) → (x && y) ≡ true → (x ≡ true) × (y ≡ true)
+  both true true e = (refl, refl)
+  both true false e = absurd (let z : _≡_ {A = ℕ} 0 1 = cc in omega arith)
+  both false y e = absurd (let z : _≡_ {A = ℕ} 0 1 = cc in omega arith)
+
+  same-number : (n : ℕ) → sameOctets n a b ≡ true → beAt a 0 n ≡ beAt b 0 n
+  unfolding sameOctets beAt
+  same-number zero e = refl
+  same-number (suc n) e =
+      let h = both (sameOctets n a b) (eqb (getD a n 0) (getD b n 0)) e in
+      let k : 0 + n ≡ n = omega arith in
+      let o : getD a n 0 ≡ getD b n 0 = eqb-true _ _ (h .1) in
+      let m : beAt a 0 n ≡ beAt b 0 n = same-number n (h .0) in
+      rw (k, m, o)
+
+  same-front : (n k : ℕ) → sameOctets (n + k) a b ≡ true → sameOctets n a b ≡ true
+  unfolding sameOctets
+  same-front n zero e = let z : n + 0 ≡ n = omega arith in rw z at e
+  same-front n (suc k) e =
+      let z : n + suc k ≡ suc (n + k) = omega arith in
+      same-front n k (both (sameOctets (n + k) a b) (eqb (getD a (n + k) 0) (getD b (n + k) 0)) (rw z at e) .0)
+
+  pub front-differs : (n : ℕ) → 4 ≤ n → (beAt a 0 4 ≡ beAt b 0 4 → ⊥) → false ≡ sameOctets n a b
+  front-differs n l d = by-test (sameOctets n a b) refl
+    where
+      by-test : (t : Bool) → sameOctets n a b ≡ t → false ≡ sameOctets n a b
+      by-test true e =
+          let z : 4 + (n - 4) ≡ n = omega arith in
+          absurd (d (same-number 4 (same-front 4 (n - 4) (rw z e))))
+      by-test false e = sym e

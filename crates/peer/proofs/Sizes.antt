@@ -41,6 +41,14 @@ module _ (kind : ℕ) where
       case true e = simp e (omega arith)
       case false e = simp e (omega arith)
 
+  pub address-least : 4 ≤ addressSize kind
+  unfolding addressSize
+  address-least = case (eqb (kind % 2) 1) refl
+    where
+      case : (z : Bool) → eqb (kind % 2) 1 ≡ z → 4 ≤ addressSize kind
+      case true e = simp e (omega arith)
+      case false e = simp e (omega arith)
+
   pub as-le : asSize kind ≤ 4
   unfolding asSize
   as-le = case (wide kind) refl

@@ -54,11 +54,15 @@ pub fn stored_peer(p: Peer) -> Peer
     }
 }
 
-// Whether two addresses have the same first n octets. The last ones differ most, so they are looked at first.
+// Whether two addresses have the same first n octets. Most differ in the first four, which are looked at as one number; of the
+// rest the last ones differ most.
 fn same_octets(a: [u8; 16], b: [u8; 16], n: usize) -> bool
-    requires { ⌜ n ≤ 16 ⌝ }
+    requires { ⌜ (4 ≤ n) × (n ≤ 16) ⌝ }
     ensures { λ r. ⌜ r ≡ sameOctets n a b ⌝ }
 {
+    if octets::be32(&a, 0) != octets::be32(&b, 0) {
+        return false;
+    }
     let mut i = n;
     while 0 < i {
         i -= 1;
