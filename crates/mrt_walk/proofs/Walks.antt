@@ -1,11 +1,11 @@
 -- What an exported call of the walk is in each of its cases.
-use Prim.Native.Nat.{ℕ, zero, suc, _<_, _≤_}
+use Prim.Native.Nat.{ℕ, _<_, _≤_}
 use mathlib.Core.Path.{_≡_, refl, sym, _∙_, ap, subst}
-use mathlib.Core.Bool.{true, false}
+use mathlib.Core.Bool.{false}
 use mathlib.Core.List.{List, [], _∷_}
 use native.Mathlib.Omega.{arith}
 use lib.ListN.{length, getD, set}
-use borrow.Author.Tests.{le-leb, lt-leb, eq-eqb, ne-eqb}
+use borrow.Author.Tests.{le-leb, lt-leb, ne-eqb}
 use Rattle.octets.specs.Octets.{patch}
 use Rattle.rules.specs.Ask.{over}
 use Rattle.header.specs.Frame.{Framing}
@@ -35,18 +35,6 @@ set-same [] n z = refl
 set-same (a ∷ []) n z = refl
 set-same (a ∷ b ∷ l) n z = let e : b ≡ 0 = z in rw e
 
-zero-mark : (a : ℕ) → a ≤ 1 → (a ≡ 1 → ⊥) → a ≡ 0
-zero-mark zero l n = refl
-zero-mark (suc a) l n = absurd (n (omega arith))
-
--- the walk in the places ws, by its mark
-module _ (ws : List ℕ) where
-  pub walk-marked : getD ws 1 0 ≡ 1 → record { position = getD ws 0 0; finished = true } ≡ walkIn ws
-  walk-marked e = simp (eq-eqb _ _ e)
-
-  pub walk-unmarked : (getD ws 1 0 ≡ 1 → ⊥) → record { position = getD ws 0 0; finished = false } ≡ walkIn ws
-  walk-unmarked n = simp (ne-eqb _ _ n)
-
 module _ (s ws out : List ℕ) (window k : ℕ) where
   -- too few places for a walk
   pub next-short : length ws < 2 → (ws, (out, 8)) ≡ nextOut s ws window k out
@@ -70,23 +58,20 @@ module _ (s ws out : List ℕ) (window k : ℕ) where
         unfolding nextOut holdsWalk
         next-full h = simp (le-leb _ _ p, le-leb _ _ m, le-leb _ _ w, lt-leb _ _ h)
 
-        pub next-stepped : 10 ≤ length out → (v : Walk) → v ≡ walkIn ws → {x : List ℕ × (List ℕ × ℕ)}
-            → x ≡ steppedOut ws out (over s (step judgeAt candidateAt v window k)) → x ≡ nextOut s ws window k out
+        pub next-stepped : 10 ≤ length out → {x : List ℕ × (List ℕ × ℕ)}
+            → x ≡ steppedOut ws out (over s (step judgeAt candidateAt (walkIn ws) window k)) → x ≡ nextOut s ws window k out
         unfolding nextOut holdsWalk
-        next-stepped h v e q =
-            q ∙ ap (λ (y : Walk). steppedOut ws out (over s (step judgeAt candidateAt y window k))) e
-            ∙ simp (le-leb _ _ p, le-leb _ _ m, le-leb _ _ w, le-leb _ _ h)
+        next-stepped h q = q ∙ simp (le-leb _ _ p, le-leb _ _ m, le-leb _ _ w, le-leb _ _ h)
 
         -- a record f that passes is handed out, and the mark stays
-        pub next-handed : 10 ≤ length out → (getD ws 1 0 ≡ 1 → ⊥) → (f : Framing) → fit f ≡ over s (judgeAt (getD ws 0 0))
+        pub next-handed : 10 ≤ length out → getD ws 1 0 ≡ 0 → (f : Framing) → fit f ≡ over s (judgeAt (getD ws 0 0))
             → {t : List ℕ} → t ≡ patch out 0 (1 ∷ getD ws 0 0 ∷ frameValues f)
             → (set ws 0 (f .end), (t, 0)) ≡ nextOut s ws window k out
-        next-handed h n f q {t} stored =
+        next-handed h z f q {t} stored =
             let here : Inside (getD ws 0 0) (length s) (fit f) =
             subst (λ (j : Judged). Inside (getD ws 0 0) (length s) j) (sym q) (inside s (getD ws 0 0)) in
-            let z : getD ws 1 0 ≡ 0 = zero-mark (getD ws 1 0) m n in
-            next-stepped h (walkIn ws) refl
+            next-stepped h
             (ap (λ (l : List ℕ). (l, (t, 0))) (set-same ws (f .end) z)
             ∙ moved-stored ws out (at (f .end)) (handed (getD ws 0 0) f)
-            (step-fit judgeAt candidateAt s (walkIn ws) window k w (ne-eqb _ _ n) (λ e. omega (arith, here .0, here .1)) f q)
+            (step-fit judgeAt candidateAt s (walkIn ws) window k w (ne-eqb (getD ws 1 0) 1 (λ (e : getD ws 1 0 ≡ 1). omega arith)) (λ e. omega (arith, here .0, here .1)) f q)
             refl (ap (λ (l : List ℕ). (l, 0)) stored))

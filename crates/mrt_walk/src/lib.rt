@@ -4,10 +4,12 @@ ghost use Rattle.recover.specs.Answers.{said};
 ghost use Prim.Native.Nat.{_≤_};
 ghost use lib.ListN.{length};
 ghost use Rattle.rules.specs.Ask.{over};
-ghost use Rattle.walk.specs.Step.{step};
+ghost use Rattle.answer.specs.Refusal.{numberOf};
+ghost use Rattle.walk.specs.Step.{step, gap, refused};
 ghost use Rattle.judge.specs.Record.{judgeAt};
 ghost use Rattle.judge.specs.Candidate.{candidateAt};
-ghost use Rattle.mrt_walk.specs.Next.{answerOut, steppedOut, nextOut};
+ghost use Rattle.mrt_walk.specs.Next.{walkIn, answerOut, steppedOut, nextOut};
+use answer::Refusal;
 use judge::Verdict;
 use lent::put_values;
 use lent::refusal;
@@ -40,56 +42,32 @@ pub extern "C" fn mrt_next(
     if out.len() < 10 {
         return 9;
     }
-    if finished == 1 {
-        return take_step(
-            s,
-            walk,
-            Walk {
-                position,
-                finished: true,
-            },
-            window,
-            asked,
-            out,
-        );
+    if finished == 0 {
+        // A record that passes is the usual answer, and needs nothing of the search.
+        if let Verdict::Fit {
+            header,
+            wire,
+            body,
+            end,
+        } = judge::judge_at(s, position) {
+            walk[0] = end as u64;
+            let v = lent::record_values(1, position, header, wire, body, end);
+            put_values(out, &v);
+            return 0;
+        }
     }
-    // A record that passes is the usual answer, and needs nothing of the search.
-    if let Verdict::Fit {
-        header,
-        wire,
-        body,
-        end,
-    } = judge::judge_at(s, position) {
-        walk[0] = end as u64;
-        let v = lent::record_values(1, position, header, wire, body, end);
-        put_values(out, &v);
-        return 0;
-    }
-    take_step(
-        s,
-        walk,
-        Walk {
-            position,
-            finished: false,
-        },
-        window,
-        asked,
-        out,
-    )
+    take_step(s, walk, window, asked, out)
 }
 
 // A step of the walk, whatever its answer, and the walk moved.
-fn take_step(
-    s: &[u8],
-    walk: &mut [u64],
-    before: Walk,
-    window: usize,
-    asked: u8,
-    out: &mut [u64],
-) -> u32
+fn take_step(s: &[u8], walk: &mut [u64], window: usize, asked: u8, out: &mut [u64]) -> u32
     requires { ⌜ 2 ≤ length (now walk) ⌝ }
-    ensures { λ r. ⌜ (now (walk .exit), (now (out .exit), r)) ≡ steppedOut (now (walk .entry)) (now (out .entry)) (over (now (s .entry)) (step judgeAt candidateAt before window asked)) ⌝ }
+    ensures { λ r. ⌜ (now (walk .exit), (now (out .exit), r)) ≡ steppedOut (now (walk .entry)) (now (out .entry)) (over (now (s .entry)) (step judgeAt candidateAt (walkIn (now (walk .entry))) window asked)) ⌝ }
 {
+    let before = Walk {
+        position: walk[0] as usize,
+        finished: walk[1] == 1,
+    };
     let after = recover::step(s, before, window, asked);
     let moved = after.walk;
     walk[0] = moved.position as u64;
@@ -120,18 +98,7 @@ fn put_answer(out: &mut [u64], a: WalkAnswer) -> u32
             refusal: why,
             evidence,
             confirmed,
-        } => {
-            let v = [
-                2,
-                start as u64,
-                end as u64,
-                refusal(why) as u64,
-                evidence as u64,
-                confirmed as u64,
-            ];
-            put_values(out, &v);
-            0
-        }
+        } => put_gap(out, start, end, why, evidence, confirmed),
         WalkAnswer::End(p) => {
             let v = [3, p as u64];
             put_values(out, &v);
@@ -141,16 +108,40 @@ fn put_answer(out: &mut [u64], a: WalkAnswer) -> u32
             start,
             window,
             refusal: why,
-        } => {
-            let v = [4, start as u64, window as u64, refusal(why) as u64];
-            put_values(out, &v);
-            11
-        }
+        } => put_refusal(out, 11, start, window, refusal(why)),
         // A walk within its stream has no such answer.
-        WalkAnswer::Refused(why) => {
-            let v = [4, 0, 0, 0];
-            put_values(out, &v);
-            refusal(why)
-        }
+        WalkAnswer::Refused(why) => put_refusal(out, refusal(why), 0, 0, 0),
     }
+}
+
+// The values of a gap.
+fn put_gap(
+    out: &mut [u64],
+    start: usize,
+    end: usize,
+    why: Refusal,
+    evidence: u8,
+    confirmed: u8,
+) -> u32
+    ensures { λ r. ⌜ (now (out .exit), r) ≡ answerOut (now (out .entry)) (gap start end (numberOf why) evidence confirmed) ⌝ }
+{
+    let v = [
+        2,
+        start as u64,
+        end as u64,
+        refusal(why) as u64,
+        evidence as u64,
+        confirmed as u64,
+    ];
+    put_values(out, &v);
+    0
+}
+
+// The values of a refusal, and its number.
+fn put_refusal(out: &mut [u64], number: u32, start: usize, window: usize, why: u32) -> u32
+    ensures { λ r. ⌜ (now (out .exit), r) ≡ answerOut (now (out .entry)) (refused number start window why) ⌝ }
+{
+    let v = [4, start as u64, window as u64, why as u64];
+    put_values(out, &v);
+    number
 }

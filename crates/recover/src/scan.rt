@@ -25,24 +25,22 @@ pub(crate) fn scan(s: &[u8], p: usize, window: usize, more: u8) -> Found
         }
         d += 1;
         let offset = p + d;
-        let first = judge::candidate_at(s, offset);
         let CandidateAnswer::Stands {
             family,
             evidence,
             end,
-        } = first
+        } = judge::candidate_at(s, offset)
         else {
             continue 'distance;
         };
         let mut i: u8 = 0;
         let mut at = end;
         while i < more {
-            let next = judge::candidate_at(s, at);
             let CandidateAnswer::Stands {
                 family: other,
                 evidence: _,
                 end: after,
-            } = next
+            } = judge::candidate_at(s, at)
             else {
                 continue 'distance;
             };

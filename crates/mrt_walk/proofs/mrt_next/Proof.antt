@@ -1,7 +1,7 @@
 use mathlib.Core.Path.{sym, _∙_, ap}
 use Rattle.octets.specs.Octets.{patch}
 use Rattle.judge.specs.Record.{judged}
-use Rattle.mrt_walk.proofs.Walks.{next-short, next-unmarked, next-beyond, next-full, next-stepped, next-handed, walk-marked, walk-unmarked}
+use Rattle.mrt_walk.proofs.Walks.{next-short, next-unmarked, next-beyond, next-full, next-stepped, next-handed}
 use borrow.Author.Needs.{needs}
 use Rattle.mrt_walk.proofs.mrt_next.Statement.{statement}
 use Rattle.mrt_walk.proofs.mrt_next.Tie as tie
@@ -28,26 +28,6 @@ returns-4 c =
     let at-if1 = at-if2 .before .before .before in
     next-full _ _ _ _ _ (at-if1 .if1 .left) (at-if2 .if2 .left) (at-if3 .if3 .left) (c .if4 .taken)
 
-take-step-requires : tie.Need-take-step-requires
-take-step-requires c κs = search needs
-
-same-length : tie.Need-same-length
-same-length c = search needs
-
-same-length-2 : tie.Need-same-length-2
-same-length-2 c = search needs
-
-returns-5 : tie.Need-returns-5
-returns-5 c =
-    let at-take = c .before .before .before .before in
-    let at-if5 = at-take .before .before .before in
-    let at-if4 = at-if5 .before in
-    let at-if3 = at-if4 .before in
-    let at-if2 = at-if3 .before in
-    let at-if1 = at-if2 .before .before .before in
-    next-stepped _ _ _ _ _ (at-if1 .if1 .left) (at-if2 .if2 .left) (at-if3 .if3 .left) (at-if4 .if4 .left) _
-    (walk-marked (at-if1 .before .before .before .before .args .walk .now) (at-if5 .if5 .taken)) (at-take .take-step .ensures)
-
 judge-at-requires : tie.Need-judge-at-requires
 judge-at-requires c κs = search needs
 
@@ -66,14 +46,14 @@ slice-aggregate-put-values c = search needs
 put-values-requires : tie.Need-put-values-requires
 put-values-requires c κs = search needs
 
-same-length-3 : tie.Need-same-length-3
-same-length-3 c = search needs
+same-length : tie.Need-same-length
+same-length c = search needs
 
-same-length-4 : tie.Need-same-length-4
-same-length-4 c = search needs
+same-length-2 : tie.Need-same-length-2
+same-length-2 c = search needs
 
-returns-6 : tie.Need-returns-6
-returns-6 c =
+returns-5 : tie.Need-returns-5
+returns-5 c =
     let at-put = c .before .before in
     let at-values = at-put .before .before .before in
     let at-header = at-values .before .before in
@@ -83,30 +63,27 @@ returns-6 c =
     let at-if3 = at-if4 .before in
     let at-if2 = at-if3 .before in
     let at-if1 = at-if2 .before .before .before in
-    next-handed _ _ _ _ _ (at-if1 .if1 .left) (at-if2 .if2 .left) (at-if3 .if3 .left) (at-if4 .if4 .left) (at-if5 .if5 .left) _
+    next-handed _ _ _ _ _ (at-if1 .if1 .left) (at-if2 .if2 .left) (at-if3 .if3 .left) (at-if4 .if4 .left) (at-if5 .if5 .taken) _
     (sym (ap judged (at-header .header .given .1)) ∙ at-judge .judge-at .ensures)
     (at-put .put-values .ensures ∙ ap (patch _ 0) (at-values .record-values .ensures))
 
-take-step-requires-2 : tie.Need-take-step-requires-2
-take-step-requires-2 c κs = search needs
+take-step-requires : tie.Need-take-step-requires
+take-step-requires c κs = search needs
 
-same-length-5 : tie.Need-same-length-5
-same-length-5 c = search needs
+same-length-3 : tie.Need-same-length-3
+same-length-3 c = search needs
 
-same-length-6 : tie.Need-same-length-6
-same-length-6 c = search needs
+same-length-4 : tie.Need-same-length-4
+same-length-4 c = search needs
 
-returns-7 : tie.Need-returns-7
-returns-7 c =
+returns-6 : tie.Need-returns-6
+returns-6 c =
     let at-take = c .before .before .before .before in
-    let at-judge = at-take .before .before .before .before in
-    let at-if5 = at-judge .before in
-    let at-if4 = at-if5 .before in
+    let at-if4 = at-take .before .before .before .before in
     let at-if3 = at-if4 .before in
     let at-if2 = at-if3 .before in
     let at-if1 = at-if2 .before .before .before in
-    next-stepped _ _ _ _ _ (at-if1 .if1 .left) (at-if2 .if2 .left) (at-if3 .if3 .left) (at-if4 .if4 .left) _
-    (walk-unmarked (at-if1 .before .before .before .before .args .walk .now) (at-if5 .if5 .left)) (at-take .take-step2 .ensures)
+    next-stepped _ _ _ _ _ (at-if1 .if1 .left) (at-if2 .if2 .left) (at-if3 .if3 .left) (at-if4 .if4 .left) (at-take .take-step .ensures)
 
 pub mrt-next-spec : {M : Type 1} → statement M
 mrt-next-spec =
@@ -118,20 +95,16 @@ mrt-next-spec =
     returns-2
     returns-3
     returns-4
-    take-step-requires
-    same-length
-    same-length-2
-    returns-5
     judge-at-requires
     enum-known-header
     slice-write-walk
     record-values-requires
     slice-aggregate-put-values
     put-values-requires
+    same-length
+    same-length-2
+    returns-5
+    take-step-requires
     same-length-3
     same-length-4
-    returns-6
-    take-step-requires-2
-    same-length-5
-    same-length-6
-    returns-7)
+    returns-6)

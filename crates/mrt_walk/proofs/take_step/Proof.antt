@@ -4,6 +4,12 @@ use borrow.Author.Needs.{needs}
 use Rattle.mrt_walk.proofs.take_step.Statement.{statement}
 use Rattle.mrt_walk.proofs.take_step.Tie as tie
 
+slice-read-t11 : tie.Need-slice-read-t11
+slice-read-t11 c = search needs
+
+slice-read-t14 : tie.Need-slice-read-t14
+slice-read-t14 c = search needs
+
 step-requires : tie.Need-step-requires
 step-requires c κs = search needs
 
@@ -37,6 +43,8 @@ pub take-step-spec : {M : Type 1} → statement M
 take-step-spec =
     tie.close
     (tie.spec
+    slice-read-t11
+    slice-read-t14
     step-requires
     slice-write-walk
     mark-of-requires

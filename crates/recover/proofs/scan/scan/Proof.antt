@@ -52,8 +52,8 @@ add-offset c = omega arith
 candidate-at-requires : tie.Need-candidate-at-requires Inv-loop μ-loop Inv-distance μ-distance
 candidate-at-requires c κs = search needs
 
-enum-known-first : tie.Need-enum-known-first Inv-loop μ-loop Inv-distance μ-distance
-enum-known-first c = search needs
+enum-known-family : tie.Need-enum-known-family Inv-loop μ-loop Inv-distance μ-distance
+enum-known-family c = search needs
 
 enum-told : tie.Need-enum-told Inv-loop μ-loop Inv-distance μ-distance
 enum-told c = search needs
@@ -77,14 +77,14 @@ loop-holds : tie.Need-loop-holds Inv-loop μ-loop Inv-distance μ-distance
 loop-holds c = (
   search needs,
   rw sub-zero
-      (row-first candidateAt _ _ _ (sym (c .before .before .before .candidate-at .ensures) ∙ ap candidacy (c .before .first .given .1))),
+      (row-first candidateAt _ _ _ (sym (c .before .before .before .candidate-at .ensures) ∙ ap candidacy (c .before .family .given .1))),
 )
 
 candidate-at-requires-2 : tie.Need-candidate-at-requires-2 Inv-loop μ-loop Inv-distance μ-distance
 candidate-at-requires-2 c κs = search needs
 
-enum-known-next : tie.Need-enum-known-next Inv-loop μ-loop Inv-distance μ-distance
-enum-known-next c = search needs
+enum-known-other : tie.Need-enum-known-other Inv-loop μ-loop Inv-distance μ-distance
+enum-known-other c = search needs
 
 enum-told-2 : tie.Need-enum-told-2 Inv-loop μ-loop Inv-distance μ-distance
 enum-told-2 c = search needs
@@ -111,7 +111,7 @@ distance-less-3 c = omega arith
 
 distance-again-3 : tie.Need-distance-again-3 Inv-loop μ-loop Inv-distance μ-distance
 distance-again-3 c =
-    let at-next = c .before .before in
+    let at-other = c .before .before in
     let at-if1 = c .before .before .before .before .before .before .before .before .before .before .before in
     let at-pass = at-if1 .before in
     let at-distance = at-pass .before in
@@ -120,9 +120,9 @@ distance-again-3 c =
       at-distance .distance .inv .1,
       scan-turned candidateAt _ _ _ _ _ _ refl
           (scan-looks candidateAt _ _ _ _ _ (omega (arith, at-if1 .if1 .left, at-distance .distance .inv .1)) there)
-          (at-next .before .before .before .before .loop .inv .1
-          ∙ row-parts candidateAt _ _ _ _ _ _ (at-next .before .before .before .loop-test .taken)
-          (sym (at-next .before .before .candidate-at2 .ensures) ∙ ap candidacy (at-next .next .given .1)) (c .if2 .taken)),
+          (at-other .before .before .before .before .loop .inv .1
+          ∙ row-parts candidateAt _ _ _ _ _ _ (at-other .before .before .before .loop-test .taken)
+          (sym (at-other .before .before .candidate-at2 .ensures) ∙ ap candidacy (at-other .other .given .1)) (c .if2 .taken)),
     )
 
 add-i : tie.Need-add-i Inv-loop μ-loop Inv-distance μ-distance
@@ -133,11 +133,11 @@ loop-less c = omega arith
 
 loop-again : tie.Need-loop-again Inv-loop μ-loop Inv-distance μ-distance
 loop-again c =
-    let at-next = c .before .before in (
+    let at-other = c .before .before in (
       omega arith,
-      at-next .before .before .before .before .loop .inv .1
-          ∙ row-goes candidateAt _ _ _ _ _ _ (at-next .before .before .before .loop-test .taken)
-          (sym (at-next .before .before .candidate-at2 .ensures) ∙ ap candidacy (at-next .next .given .1)) (c .if2 .left),
+      at-other .before .before .before .before .loop .inv .1
+          ∙ row-goes candidateAt _ _ _ _ _ _ (at-other .before .before .before .loop-test .taken)
+          (sym (at-other .before .before .candidate-at2 .ensures) ∙ ap candidacy (at-other .other .given .1)) (c .if2 .left),
     )
 
 returns-2 : tie.Need-returns-2 Inv-loop μ-loop Inv-distance μ-distance
@@ -164,13 +164,13 @@ scan-spec =
     add-d
     add-offset
     candidate-at-requires
-    enum-known-first
+    enum-known-family
     enum-told
     distance-less
     distance-again
     loop-holds
     candidate-at-requires-2
-    enum-known-next
+    enum-known-other
     enum-told-2
     distance-less-2
     distance-again-2
