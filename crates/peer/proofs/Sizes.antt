@@ -61,9 +61,6 @@ module _ (kind : ℕ) where
   unfolding peerSize
   size-is = refl
 
-  pub size-le : peerSize kind ≤ 25
-  size-le = omega (arith, address-le, as-le, size-is)
-
 -- whether the AS fits, by the type's two cases
 module _ (p : Peer) where
   pub fits-wide : p .kind / 2 % 2 ≡ 1 → false ≡ unfit p
