@@ -10,6 +10,14 @@ pub struct Written {
     pub refusal: u32,
 }
 
+/// What a call that hands out rows returns: how many, 0 where it refuses.
+#[repr(C)]
+#[derive(Debug, Clone, Copy, PartialEq, Eq)]
+pub struct Handed {
+    pub count: u64,
+    pub refusal: u32,
+}
+
 /// What a lookup and an add return: the peer's id, 0 where they refuse.
 #[repr(C)]
 #[derive(Debug, Clone, Copy, PartialEq, Eq)]
@@ -19,7 +27,7 @@ pub struct Found {
 }
 
 mod raw {
-    use super::{Found, Peer, Written};
+    use super::{Found, Handed, Peer, Written};
 
     extern "C" {
         pub fn mrt_read_header(s: *const u8, len: usize, at: usize, out: *mut u64, places: usize) -> u32;
@@ -46,6 +54,14 @@ mod raw {
             out: *mut u64,
             places: usize,
         ) -> u32;
+        pub fn mrt_records(
+            s: *const u8,
+            len: usize,
+            walk: *mut u64,
+            walk_places: usize,
+            out: *mut u64,
+            places: usize,
+        ) -> Handed;
         pub fn mrt_check_peers(body: *const u8, len: usize, out: *mut u64, places: usize) -> u32;
         pub fn mrt_load_peers(body: *const u8, len: usize, slots: *mut Peer, slots_len: usize) -> u32;
         pub fn mrt_find_peer(
@@ -178,6 +194,13 @@ pub fn write_header(out: &mut [u8], timestamp: u32, kind: u16, subtype: u16, sto
 #[inline]
 pub fn next(s: &[u8], walk: &mut [u64; 2], window: usize, asked: u8, out: &mut [u64; 10]) -> u32 {
     unsafe { raw::mrt_next(s.as_ptr(), s.len(), walk.as_mut_ptr(), 2, window, asked, out.as_mut_ptr(), 10) }
+}
+
+/// Rows that no record is handed out for keep what they had.
+#[inline]
+pub fn records(s: &[u8], walk: &mut [u64; 2], rows: &mut [[u64; 10]]) -> Handed {
+    let out = rows.as_flattened_mut();
+    unsafe { raw::mrt_records(s.as_ptr(), s.len(), walk.as_mut_ptr(), 2, out.as_mut_ptr(), out.len()) }
 }
 
 #[inline]

@@ -64,21 +64,31 @@ pub fn walk<'a>(name: &str, stream: &'a [u8], window: usize, asked: u8) -> Work<
     }
 }
 
+/// How many records are asked for by one call.
+const ROWS: usize = 16;
+
+/// Records by the call that hands out many; what is no record, by the walk's own call.
 fn ours(stream: &[u8], window: usize, asked: u8) -> Said {
     let mut said = Said::default();
-    let (mut walk, mut out) = ([0; 2], [0; 10]);
+    let (mut walk, mut rows, mut out) = ([0; 2], [[0; 10]; ROWS], [0; 10]);
     loop {
+        let count = exports::records(stream, &mut walk, &mut rows).count as usize;
+        for &[_, start, timestamp, kind, subtype, _, _, micros, body, end] in &rows[..count] {
+            said.record(Record { start, body, end, timestamp, kind, subtype, micros });
+        }
+        if count == ROWS {
+            continue;
+        }
         exports::next(stream, &mut walk, window, asked, &mut out);
-        let [answer, start, a, b, c, d, _, micros, body, end] = out;
+        let [answer, start, end, refusal, evidence, confirmed, ..] = out;
         match answer {
-            1 => said.record(Record { start, body, end, timestamp: a, kind: b, subtype: c, micros }),
             2 => {
-                said.gap(start, a, c, d);
-                said.refused(start, b);
+                said.gap(start, end, evidence, confirmed);
+                said.refused(start, refusal);
             }
             3 => return said.last(start),
             _ => {
-                said.refused(start, b);
+                said.refused(start, refusal);
                 return said.last(start);
             }
         }

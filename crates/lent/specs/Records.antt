@@ -12,3 +12,7 @@ headValues h = h .timestamp ∷ h .kind ∷ h .subtype ∷ h .wire ∷ h .stored
 -- the values of a framed record
 abbrev pub frameValues : Framing → List ℕ
 frameValues f = headValues (f .head) ++ (f .body ∷ f .end ∷ [])
+
+-- the values of a record that a walk hands out: the kind of the answer, and where the record starts
+abbrev pub recordValues : ℕ → Framing → List ℕ
+recordValues a f = 1 ∷ a ∷ frameValues f

@@ -3,9 +3,8 @@
 -- 8 for no such walk or a position beyond the stream, then 9 for fewer than 10 places; both leave the walk and the places.
 use Prim.Native.Nat.{ℕ}
 use mathlib.Core.List.{List, [], _∷_}
-use mathlib.Core.Bool.{Bool, _&&_, cond}
 use lib.ListN.{length, getD}
-use lib.Dec.{leb, eqb}
+use lib.Dec.{eqb}
 use Rattle.octets.specs.Octets.{patch}
 use Rattle.rules.specs.Ask.{over}
 use Rattle.walk.specs.Step.{Answer, handed, gap, end, refused, Stepped, step}
@@ -13,11 +12,8 @@ use Rattle.walk.specs.declared.Walk.{Walk}
 use Rattle.judge.specs.Record.{judgeAt}
 use Rattle.judge.specs.Candidate.{candidateAt}
 use Rattle.lent.specs.Export.{mark}
-use Rattle.lent.specs.Records.{frameValues}
-
--- the places ws hold a walk, at a position within n octets
-unfoldable pub holdsWalk : ℕ → List ℕ → Bool
-holdsWalk n ws = leb 2 (length ws) && leb (getD ws 1 0) 1 && leb (getD ws 0 0) n
+use Rattle.lent.specs.Records.{recordValues}
+use Rattle.lent.specs.Walks.{onWalk}
 
 -- the walk that they hold
 abbrev pub walkIn : List ℕ → Walk
@@ -29,7 +25,7 @@ walkValues w = w .position ∷ mark (w .finished) ∷ []
 
 -- the values of an answer: its kind, and its fields in their order; the number of a refusal is returned
 abbrev pub answerValues : Answer → List ℕ
-answerValues (handed a f) = 1 ∷ a ∷ frameValues f
+answerValues (handed a f) = recordValues a f
 answerValues (gap a e r v c) = 2 ∷ a ∷ e ∷ r ∷ v ∷ c ∷ []
 answerValues (end a) = 3 ∷ a ∷ []
 answerValues (refused n a w r) = 4 ∷ a ∷ w ∷ r ∷ []
@@ -50,8 +46,9 @@ abbrev pub steppedOut : List ℕ → List ℕ → Stepped → List ℕ × (List 
 steppedOut ws out x = (patch ws 0 (walkValues (x .walk)), answerOut out (x .answer))
 
 -- one call over the stream s
-unfoldable pub nextOut : List ℕ → List ℕ → ℕ → ℕ → List ℕ → List ℕ × (List ℕ × ℕ)
+abbrev pub nextOut : List ℕ → List ℕ → ℕ → ℕ → List ℕ → List ℕ × (List ℕ × ℕ)
 nextOut s ws window k out =
-    cond (holdsWalk (length s) ws)
-    (cond (leb 10 (length out)) (steppedOut ws out (over s (step judgeAt candidateAt (walkIn ws) window k))) (ws, (out, 9)))
+    onWalk (length s) ws out
+    (steppedOut ws out (over s (step judgeAt candidateAt (walkIn ws) window k)))
+    (ws, (out, 9))
     (ws, (out, 8))

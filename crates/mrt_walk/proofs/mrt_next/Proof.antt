@@ -1,13 +1,14 @@
 use mathlib.Core.Path.{sym, _∙_, ap}
 use Rattle.octets.specs.Octets.{patch}
 use Rattle.judge.specs.Record.{judged}
-use Rattle.mrt_walk.proofs.Walks.{next-short, next-unmarked, next-beyond, next-full, next-stepped, next-handed}
+use Rattle.lent.proofs.Walks.{walk-short, walk-unmarked, walk-beyond, walk-full}
+use Rattle.mrt_walk.proofs.Walks.{next-stepped, next-handed}
 use borrow.Author.Needs.{needs}
 use Rattle.mrt_walk.proofs.mrt_next.Statement.{statement}
 use Rattle.mrt_walk.proofs.mrt_next.Tie as tie
 
 returns : tie.Need-returns
-returns c = next-short _ _ _ _ _ (c .if1 .taken)
+returns c = walk-short _ _ _ _ _ _ (c .if1 .taken)
 
 slice-read-position : tie.Need-slice-read-position
 slice-read-position c = search needs
@@ -16,17 +17,17 @@ slice-read-finished : tie.Need-slice-read-finished
 slice-read-finished c = search needs
 
 returns-2 : tie.Need-returns-2
-returns-2 c = next-unmarked _ _ _ _ _ (c .before .before .before .if1 .left) (c .if2 .taken)
+returns-2 c = walk-unmarked _ _ _ _ _ _ (c .before .before .before .if1 .left) (c .if2 .taken)
 
 returns-3 : tie.Need-returns-3
-returns-3 c = next-beyond _ _ _ _ _ (c .before .before .before .before .if1 .left) (c .before .if2 .left) (c .if3 .taken)
+returns-3 c = walk-beyond _ _ _ _ _ _ (c .before .before .before .before .if1 .left) (c .before .if2 .left) (c .if3 .taken)
 
 returns-4 : tie.Need-returns-4
 returns-4 c =
     let at-if3 = c .before in
     let at-if2 = at-if3 .before in
     let at-if1 = at-if2 .before .before .before in
-    next-full _ _ _ _ _ (at-if1 .if1 .left) (at-if2 .if2 .left) (at-if3 .if3 .left) (c .if4 .taken)
+    walk-full _ _ _ _ _ _ (at-if1 .if1 .left) (at-if2 .if2 .left) (at-if3 .if3 .left) (c .if4 .taken)
 
 judge-at-requires : tie.Need-judge-at-requires
 judge-at-requires c κs = search needs

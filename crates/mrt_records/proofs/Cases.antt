@@ -1,0 +1,47 @@
+-- What stands at an offset, once it has been judged, and what the call is in each of its cases.
+use Prim.Native.Nat.{ℕ, _-_, _/_, _≤_}
+use mathlib.Core.Path.{_≡_, sym, _∙_, ap}
+use mathlib.Core.List.{List, _++_, append-nil}
+use native.Mathlib.Nat.{add-zero}
+use native.Mathlib.Omega.{arith}
+use lib.ListN.{length, getD, take, drop, set, length-drop, drop-of-length-le}
+use lib.Seq.{take-all}
+use Rattle.octets.specs.Octets.{patch}
+use Rattle.octets.proofs.Stores.{patch-part}
+use borrow.Author.Tests.{eq-eqb, ne-eqb}
+use Rattle.rules.specs.Ask.{over}
+use Rattle.judge.specs.Record.{judgeAt, judged}
+use Rattle.judge.specs.declared.Verdict.{Verdict}
+use Rattle.lent.specs.Rows.{rowsFrom, rowsOut, rowsHanded, noneHanded}
+use Rattle.lent.specs.declared.Handed.{Handed}
+use Rattle.lent.proofs.Walks.{walk-served}
+use Rattle.mrt_records.specs.Records.{recordTurn, recordAt, recordsOut}
+
+-- the verdict v, which is w
+pub record-found : (s : List ℕ) (p : ℕ) {v w : Verdict} → judged v ≡ over s (judgeAt p) → v ≡ w → recordAt s p ≡ recordTurn p (judged w)
+unfolding recordAt
+record-found s p q e = ap (recordTurn p) (sym q ∙ ap judged e)
+
+-- stores at the front of the part that starts at len, seen in the whole
+pub part-stored : (s : List ℕ) (len : ℕ) (bs : List ℕ) {u : List ℕ} → len ≤ length s → u ≡ patch (take (length s - len) (drop len s)) 0 bs
+    → take len s ++ (u ++ drop (length s - len) (drop len s)) ≡ patch s len bs
+part-stored s len bs {u} h e =
+    let k : length (drop len s) ≤ length s - len = simp length-drop (omega arith) in
+    rw (e, take-all (length s - len) (drop len s) k, drop-of-length-le (drop len s) k, append-nil, patch-part s len 0 bs h, add-zero)
+
+module _ (s ws out : List ℕ) where
+  -- nothing is handed out
+  pub nothing-handed : {h r : Handed} → h ≡ r → (ws, (out, r)) ≡ recordsOut s ws out → (ws, (out, h)) ≡ recordsOut s ws out
+  nothing-handed e q = ap (λ (x : Handed). (ws, (out, x))) e ∙ q
+
+  module _ (p : 2 ≤ length ws) (m : getD ws 1 0 ≤ 1) (w : getD ws 0 0 ≤ length s) (h : 10 ≤ length out) where
+    pub records-finished : getD ws 1 0 ≡ 1 → (ws, (out, noneHanded 0)) ≡ recordsOut s ws out
+    records-finished e = simp (eq-eqb (getD ws 1 0) 1 e) (walk-served (length s) ws out _ _ _ p m w h)
+
+    -- k records are handed out, and the next one is looked for at q
+    pub records-taken : (getD ws 1 0 ≡ 1 → ⊥) → {t : List ℕ} {k q : ℕ}
+        → (t, (k, q)) ≡ rowsOut out (rowsFrom (recordAt s) (length out / 10) (getD ws 0 0))
+        → (set ws 0 q, (t, rowsHanded k)) ≡ recordsOut s ws out
+    records-taken n e =
+        ap (λ (x : List ℕ × (ℕ × ℕ)). (set ws 0 (x .1 .1), (x .0, rowsHanded (x .1 .0)))) e
+        ∙ simp (ne-eqb (getD ws 1 0) 1 n) (walk-served (length s) ws out _ _ _ p m w h)

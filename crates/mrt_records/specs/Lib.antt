@@ -1,0 +1,2 @@
+-- Records: many records of a walk by one call.
+pub mod Records
