@@ -55,6 +55,12 @@ typedef struct mrt_written {
     uint32_t refusal;
 } mrt_written;
 
+/* What a call that hands out rows of values returns: a refusal's number or 0, and how many rows, 0 where it has refused. */
+typedef struct mrt_handed {
+    uint64_t count;
+    uint32_t refusal;
+} mrt_handed;
+
 /* What a lookup and an addition return: a refusal's number or 0, and the id of a peer, 0 where they have refused. */
 typedef struct mrt_found {
     uint32_t refusal;
@@ -112,6 +118,14 @@ mrt_written mrt_write_header(uint8_t *out, size_t out_len, uint32_t timestamp, u
  */
 uint32_t mrt_next(const uint8_t *s, size_t s_len, uint64_t *walk, size_t walk_len, size_t window, uint8_t asked, uint64_t *out,
                   size_t out_len);
+
+/*
+ * Records from a walk's position on, one after another, as long as each passes all checks and `out` has ten places for it: many
+ * answers of mrt_next by one call, each with the values that mrt_next leaves. The walk is moved past them. Where fewer records
+ * come than there are places for, mrt_next says what stands after them; of a finished walk none come.
+ * Refusals: those of mrt_next, 8 and 9, which leave everything as it was.
+ */
+mrt_handed mrt_records(const uint8_t *s, size_t s_len, uint64_t *walk, size_t walk_len, uint64_t *out, size_t out_len);
 
 /*
  * The head of a PEER_INDEX_TABLE whose body holds every declared peer.
@@ -179,6 +193,15 @@ uint32_t mrt_rib_first(const uint8_t *body, size_t body_len, uint16_t subtype, u
  */
 uint32_t mrt_rib_next(const uint8_t *body, size_t body_len, uint16_t subtype, size_t at, uint16_t left, uint64_t *out,
                       size_t out_len);
+
+/*
+ * Entries from a cursor on, one after another, as long as there are any and `out` has five places for each: many answers of
+ * mrt_rib_next by one call, each with the values of mrt_rib_entry. `cursor` has the two values of mrt_rib_first and is moved past
+ * them. Where fewer entries come than there are places for, reading has stopped.
+ * Refusals: 8 (fewer than two places, or more than 65,535 left), 6, 9 (fewer than five places), which leave everything as it was.
+ */
+mrt_handed mrt_rib_entries(const uint8_t *body, size_t body_len, uint16_t subtype, uint64_t *cursor, size_t cursor_len, uint64_t *out,
+                           size_t out_len);
 
 /*
  * Begins a RIB body with no entry at the front of `out`. `prefix` has 16 octets, of which the first that hold `bits` bits are

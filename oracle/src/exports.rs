@@ -112,6 +112,15 @@ mod raw {
             out: *mut u64,
             places: usize,
         ) -> u32;
+        pub fn mrt_rib_entries(
+            body: *const u8,
+            len: usize,
+            subtype: u16,
+            cursor: *mut u64,
+            cursor_places: usize,
+            out: *mut u64,
+            places: usize,
+        ) -> Handed;
         pub fn mrt_age(timestamp: u32, originated: u32) -> i64;
         pub fn mrt_begin_rib(
             out: *mut u8,
@@ -253,6 +262,14 @@ pub fn rib_first(body: &[u8], subtype: u16) -> (u32, [u64; 2]) {
 #[inline]
 pub fn rib_next(body: &[u8], subtype: u16, at: usize, left: u16) -> (u32, [u64; 8]) {
     values(|out, places| unsafe { raw::mrt_rib_next(body.as_ptr(), body.len(), subtype, at, left, out, places) })
+}
+
+/// Rows that no entry is handed out for keep what they had.
+#[inline]
+pub fn rib_entries(body: &[u8], subtype: u16, cursor: &mut [u64; 2], rows: &mut [[u64; 5]]) -> Handed {
+    let out = rows.as_flattened_mut();
+    let (cursor, places) = (cursor.as_mut_ptr(), cursor.len());
+    unsafe { raw::mrt_rib_entries(body.as_ptr(), body.len(), subtype, cursor, places, out.as_mut_ptr(), out.len()) }
 }
 
 #[inline]

@@ -76,6 +76,43 @@ fn by_cursor(subtype: u16, body: &[u8], index: usize) -> Option<[u64; 5]> {
     }
 }
 
+/// The same as the call hands them out that hands out many, three at a time.
+fn by_rows(subtype: u16, body: &[u8], index: usize) -> Option<[u64; 5]> {
+    let (refusal, mut cursor) = exports::rib_first(body, subtype);
+    if refusal != 0 {
+        return None;
+    }
+    let (mut rows, mut passed) = ([[0; 5]; 3], 0);
+    loop {
+        let count = exports::rib_entries(body, subtype, &mut cursor, &mut rows).count as usize;
+        if index < passed + count || count < rows.len() {
+            return rows[..count].get(index - passed).copied();
+        }
+        passed += count;
+    }
+}
+
+/// Whether the call that hands out many records has those that the walk hands out from there on, up to three, and leaves the
+/// walk where they do.
+fn records_agree(stream: &[u8], walk: [u64; 2]) -> bool {
+    let (mut by_one, mut records) = (walk, Vec::new());
+    while records.len() < 3 {
+        let (mut after, mut out) = (by_one, [0; 10]);
+        exports::next(stream, &mut after, 0, 1, &mut out);
+        if out[0] != 1 {
+            break;
+        }
+        by_one = after;
+        records.push(out);
+    }
+    let (mut many, mut rows) = (walk, [[0; 10]; 3]);
+    let handed = exports::records(stream, &mut many, &mut rows);
+    let refusal = if walk[0] > stream.len() as u64 { 8 } else { 0 };
+    (handed.refusal, handed.count as usize) == (refusal, records.len())
+        && rows[..records.len()] == records
+        && many == by_one
+}
+
 /// The entry added by a builder that is opened for it.
 fn pushed(buffer: &mut [u8], length: usize, subtype: u16, entry: &NewEntry) -> Written {
     let refused = |refusal| Written { octets: 0, refusal };
@@ -163,10 +200,11 @@ impl Subject for Proved {
         Some(Answer { refusal: refusal as u8, value })
     }
 
-    /// The entry by its number, and by the cursor, which is to come to the same.
+    /// The entry by its number, and by the cursor, one at a time and many, which is to come to the same.
     fn rib_entry(&self, subtype: u16, body: &[u8], timestamp: u32, index: usize) -> Option<Answer<RibEntry>> {
         let (refusal, out) = exports::rib_entry(body, subtype, index);
-        if by_cursor(subtype, body, index) != (refusal == 0).then_some(out) {
+        let read = (refusal == 0).then_some(out);
+        if by_cursor(subtype, body, index) != read || by_rows(subtype, body, index) != read {
             return Some(Err(AT_ODDS).into());
         }
         if refusal != 0 {
@@ -211,6 +249,7 @@ impl Subject for Proved {
 
     fn step(&self, stream: &[u8], walk: &mut Walk, window: usize, asked: u8) -> Option<Event> {
         let mut state = [walk.position as u64, u64::from(walk.finished)];
+        assert!(records_agree(stream, state), "mrt_records has other records than mrt_next from {state:?} on");
         let mut out = [0; 10];
         let refusal = exports::next(stream, &mut state, window, asked, &mut out);
         *walk = Walk { position: state[0] as usize, finished: state[1] == 1 };

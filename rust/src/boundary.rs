@@ -16,6 +16,13 @@ struct Written {
     refusal: u32,
 }
 
+/// What a call answers that hands out rows: how many, 0 where refused.
+#[repr(C)]
+struct Handed {
+    count: u64,
+    refusal: u32,
+}
+
 /// What a lookup answers: an id, 0 where refused.
 #[repr(C)]
 struct Found {
@@ -23,6 +30,7 @@ struct Found {
     id: u32,
 }
 
+#[expect(dead_code, reason = "entries are asked for many at once; mrt_rib_next stands here so that all calls do")]
 unsafe extern "C" {
     fn mrt_read_header(s: *const u8, s_len: usize, at: usize, out: *mut u64, out_len: usize) -> u32;
     fn mrt_frame(s: *const u8, s_len: usize, at: usize, out: *mut u64, out_len: usize) -> u32;
@@ -48,6 +56,14 @@ unsafe extern "C" {
         out: *mut u64,
         out_len: usize,
     ) -> u32;
+    fn mrt_records(
+        s: *const u8,
+        s_len: usize,
+        walk: *mut u64,
+        walk_len: usize,
+        out: *mut u64,
+        out_len: usize,
+    ) -> Handed;
     fn mrt_check_peers(body: *const u8, body_len: usize, out: *mut u64, out_len: usize) -> u32;
     fn mrt_load_peers(body: *const u8, body_len: usize, slots: *mut Peer, slots_len: usize) -> u32;
     fn mrt_find_peer(
@@ -98,6 +114,15 @@ unsafe extern "C" {
         out: *mut u64,
         out_len: usize,
     ) -> u32;
+    fn mrt_rib_entries(
+        body: *const u8,
+        body_len: usize,
+        subtype: u16,
+        cursor: *mut u64,
+        cursor_len: usize,
+        out: *mut u64,
+        out_len: usize,
+    ) -> Handed;
     fn mrt_age(timestamp: u32, originated: u32) -> i64;
     fn mrt_begin_rib(
         out: *mut u8,
@@ -203,6 +228,15 @@ pub(crate) fn next(s: &[u8], walk: &mut [u64; 2], window: usize, asked: u8) -> [
     out
 }
 
+/// How many records stand at the front of the rows, each as `next` has it. Of a walk within its stream none is refused.
+pub(crate) fn records(s: &[u8], walk: &mut [u64; 2], rows: &mut [[u64; 10]]) -> usize {
+    let out = rows.as_flattened_mut();
+    // SAFETY: each slice is lent with its own length, and the two that are written are borrowed apart.
+    let handed =
+        unsafe { mrt_records(s.as_ptr(), s.len(), walk.as_mut_ptr(), walk.len(), out.as_mut_ptr(), out.len()) };
+    handed.count as usize
+}
+
 /// Collector, where the view name starts, its octets, how many peers, where the first one starts, where the last one ends.
 pub(crate) fn check_peers(body: &[u8]) -> Result<[u64; 6], Refusal> {
     // SAFETY: each slice is lent with its own length.
@@ -263,10 +297,15 @@ pub(crate) fn rib_first(body: &[u8], subtype: u16) -> Result<[u64; 2], Refusal> 
     values(|out| unsafe { mrt_rib_first(body.as_ptr(), body.len(), subtype, out.as_mut_ptr(), out.len()) })
 }
 
-/// 1, the values of the entry, where the next one starts, how many are left; or zeros.
-pub(crate) fn rib_next(body: &[u8], subtype: u16, at: usize, left: u16) -> Result<[u64; 8], Refusal> {
-    // SAFETY: each slice is lent with its own length.
-    values(|out| unsafe { mrt_rib_next(body.as_ptr(), body.len(), subtype, at, left, out.as_mut_ptr(), out.len()) })
+/// How many entries stand at the front of the rows, each as `rib_entry` has it. Of a subtype that is carried none is refused.
+pub(crate) fn rib_entries(body: &[u8], subtype: u16, cursor: &mut [u64; 2], rows: &mut [[u64; 5]]) -> usize {
+    let out = rows.as_flattened_mut();
+    let (state, state_len) = (cursor.as_mut_ptr(), cursor.len());
+    // SAFETY: each slice is lent with its own length, and the two that are written are borrowed apart.
+    let handed = unsafe {
+        mrt_rib_entries(body.as_ptr(), body.len(), subtype, state, state_len, out.as_mut_ptr(), out.len())
+    };
+    handed.count as usize
 }
 
 pub(crate) fn age(timestamp: u32, originated: u32) -> i64 {

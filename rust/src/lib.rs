@@ -57,6 +57,7 @@ mod peers;
 mod refusal;
 mod rib;
 mod rib_write;
+mod rows;
 mod walk;
 
 pub use check::{Candidate, Evidence, Family, check_body};

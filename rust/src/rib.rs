@@ -1,6 +1,7 @@
 //! RIB bodies, read.
 
 use crate::peers::address_of;
+use crate::rows::Rows;
 use crate::{Refusal, boundary, part};
 use core::iter::FusedIterator;
 use core::net::IpAddr;
@@ -83,7 +84,7 @@ impl<'a> Rib<'a> {
 
     /// The entries, as many as `count` says.
     pub const fn entries(&self) -> Entries<'a> {
-        Entries { body: self.body, subtype: self.subtype, at: self.entries, left: self.declared }
+        Entries::at(self.body, self.subtype, [self.entries as u64, self.declared as u64])
     }
 }
 
@@ -133,8 +134,10 @@ impl<'a> Entry<'a> {
 pub struct Entries<'a> {
     body: &'a [u8],
     subtype: u16,
-    at: usize,
-    left: u16,
+    /// Where the next entry starts, and how many are left. The entries that are held stand before it.
+    cursor: [u64; 2],
+    /// Few at a time: most records have few.
+    entries: Rows<5, 8>,
 }
 
 impl<'a> Entries<'a> {
@@ -144,8 +147,12 @@ impl<'a> Entries<'a> {
     ///
     /// Those of [`Rib::read`].
     pub fn read(body: &'a [u8], subtype: u16) -> Result<Entries<'a>, Refusal> {
-        let [at, left] = boundary::rib_first(body, subtype)?;
-        Ok(Entries { body, subtype, at: at as usize, left: left as u16 })
+        Ok(Entries::at(body, subtype, boundary::rib_first(body, subtype)?))
+    }
+
+    /// The entries from a cursor on, of a subtype that is carried.
+    const fn at(body: &'a [u8], subtype: u16, cursor: [u64; 2]) -> Entries<'a> {
+        Entries { body, subtype, cursor, entries: Rows::new() }
     }
 }
 
@@ -153,18 +160,14 @@ impl<'a> Iterator for Entries<'a> {
     type Item = Entry<'a>;
 
     fn next(&mut self) -> Option<Entry<'a>> {
-        match boundary::rib_next(self.body, self.subtype, self.at, self.left) {
-            Ok([1, entry @ .., at, left]) => {
-                (self.at, self.left) = (at as usize, left as u16);
-                Some(Entry::of(self.body, entry))
-            }
-            // None is left, or the next one does not fit: the cursor stays, so that every later call answers the same.
-            _ => None,
-        }
+        // None come where none is left or the next one does not fit, and the cursor stays: so at every later call.
+        let ask = |rows: &mut [_]| boundary::rib_entries(self.body, self.subtype, &mut self.cursor, rows);
+        self.entries.next(ask).map(|values| Entry::of(self.body, values))
     }
 
     fn size_hint(&self) -> (usize, Option<usize>) {
-        (0, Some(usize::from(self.left)))
+        let (held, [_, left]) = (self.entries.len(), self.cursor);
+        (held, held.checked_add(left as usize))
     }
 }
 

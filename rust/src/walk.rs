@@ -1,5 +1,6 @@
 //! The recovering walk.
 
+use crate::rows::Rows;
 use crate::{Evidence, Record, Refusal, boundary};
 use core::error::Error;
 use core::fmt;
@@ -124,8 +125,11 @@ impl From<Exhausted> for Refusal {
 pub struct Walk<'a> {
     stream: &'a [u8],
     options: Options,
-    /// The position, and 1 where the walk is finished. Within the stream, always.
+    /// The position, and 1 where the walk is finished. Within the stream, always. The records that are held stand before it.
     place: [u64; 2],
+    records: Rows<10, 16>,
+    /// Where the next item starts.
+    position: usize,
 }
 
 impl<'a> Walk<'a> {
@@ -136,7 +140,7 @@ impl<'a> Walk<'a> {
 
     /// A fresh walk.
     pub const fn with_options(stream: &'a [u8], options: Options) -> Walk<'a> {
-        Walk { stream, options, place: [0, 0] }
+        Walk { stream, options, place: [0, 0], records: Rows::new(), position: 0 }
     }
 
     /// A walk from an offset on: to go on where another one stopped, with a wider window say.
@@ -160,13 +164,12 @@ impl<'a> Walk<'a> {
         if stream.len() < at {
             return Err(Refusal::Beyond);
         }
-        Ok(Walk { stream, options, place: [at as u64, 0] })
+        Ok(Walk { stream, options, place: [at as u64, 0], records: Rows::new(), position: at })
     }
 
     /// Where the next item starts: how far the walk has come.
     pub const fn position(&self) -> usize {
-        let [position, _] = self.place;
-        position as usize
+        self.position
     }
 
     /// Whether the end, or an exhausted window, has been answered.
@@ -180,6 +183,23 @@ impl<'a> Iterator for Walk<'a> {
     type Item = Result<Item<'a>, Exhausted>;
 
     fn next(&mut self) -> Option<Self::Item> {
+        if let Some([_, start, record @ ..]) =
+            self.records.next(|rows| boundary::records(self.stream, &mut self.place, rows))
+        {
+            let [.., end] = record;
+            self.position = end as usize;
+            return Some(Ok(Item::Record(Record::of(self.stream, start, record))));
+        }
+        let item = self.step();
+        let [position, _] = self.place;
+        self.position = position as usize;
+        item
+    }
+}
+
+impl<'a> Walk<'a> {
+    /// One answer of the walk's own call.
+    fn step(&mut self) -> Option<Result<Item<'a>, Exhausted>> {
         let Options { window, confirmations } = self.options;
         match boundary::next(self.stream, &mut self.place, window, confirmations) {
             [1, start, record @ ..] => Some(Ok(Item::Record(Record::of(self.stream, start, record)))),

@@ -111,17 +111,20 @@ fn parse(body: &Bytes) -> RibAfiEntries {
     parse_rib_afi_entries(&mut body.clone(), TableDumpV2Type::RibIpv4Unicast).expect("the head is readable")
 }
 
+/// How many entries are asked for by one call.
+const ROWS: usize = 16;
+
 fn read_by_ours(body: &[u8]) -> u64 {
-    let (_, [mut at, mut left]) = exports::rib_first(body, SUBTYPE);
-    let mut sum = 0u64;
+    let (_, mut cursor) = exports::rib_first(body, SUBTYPE);
+    let (mut rows, mut sum) = ([[0; 5]; ROWS], 0u64);
     loop {
-        let (_, [more, peer, originated, _, start, end, next, after]) =
-            exports::rib_next(body, SUBTYPE, at as usize, left as u16);
-        if more == 0 {
+        let count = exports::rib_entries(body, SUBTYPE, &mut cursor, &mut rows).count as usize;
+        for &[peer, originated, _, start, end] in &rows[..count] {
+            sum = sum.wrapping_add(said(peer, originated, start, end - start));
+        }
+        if count < ROWS {
             return sum;
         }
-        sum = sum.wrapping_add(said(peer, originated, start, end - start));
-        (at, left) = (next, after);
     }
 }
 

@@ -55,6 +55,22 @@ fn a_walk_from_an_offset_on() {
 }
 
 #[test]
+fn the_position_is_where_the_next_item_starts() {
+    let stream = [state_change().repeat(40), vec![0; 3], state_change().repeat(2)].concat();
+    let mut walk = Walk::new(&stream);
+    while let Some(Ok(item)) = walk.next() {
+        let end = match item {
+            Item::Record(record) => record.end,
+            Item::Gap(gap) => gap.end,
+        };
+        assert_eq!((walk.position(), walk.is_finished()), (end, false));
+        let again = Walk::starting_at(&stream, end, Options::new()).unwrap();
+        assert!(walk.clone().eq(again));
+    }
+    assert_eq!((walk.position(), walk.is_finished()), (stream.len(), true));
+}
+
+#[test]
 fn a_scan_asks_for_a_chain_of_one_family() {
     let damage = vec![255; 20];
     let two = [damage.clone(), state_change(), state_change()].concat();

@@ -1,0 +1,110 @@
+use borrow.Author.Needs.{needs}
+use Rattle.rib.proofs.Heads.{carried-not, carried-so}
+use Rattle.mrt_rib_entries.proofs.Cases.{entries-short, entries-many, entries-other, entries-full, entries-taken}
+use Rattle.mrt_rib_entries.proofs.mrt_rib_entries.Statement.{statement}
+use Rattle.mrt_rib_entries.proofs.mrt_rib_entries.Tie as tie
+
+refuse-requires : tie.Need-refuse-requires
+refuse-requires c κs = search needs
+
+returns : tie.Need-returns
+returns c = entries-short _ _ _ _ (c .refuse .ensures) (c .before .if1 .taken)
+
+slice-read-at : tie.Need-slice-read-at
+slice-read-at c = search needs
+
+slice-read-left : tie.Need-slice-read-left
+slice-read-left c = search needs
+
+refuse-requires-2 : tie.Need-refuse-requires-2
+refuse-requires-2 c κs = search needs
+
+returns-2 : tie.Need-returns-2
+returns-2 c =
+    let at-if2 = c .before in
+    let at-if1 = at-if2 .before .before .before in
+    entries-many _ _ _ _ (at-if1 .if1 .left) (c .refuse2 .ensures) (at-if2 .if2 .taken)
+
+layout-of-requires : tie.Need-layout-of-requires
+layout-of-requires c κs = search needs
+
+refuse-requires-3 : tie.Need-refuse-requires-3
+refuse-requires-3 c κs = search needs
+
+returns-3 : tie.Need-returns-3
+returns-3 c =
+    let at-if3 = c .before in
+    let at-layout-of = at-if3 .before .before in
+    let at-if2 = at-layout-of .before in
+    let at-if1 = at-if2 .before .before .before in
+    entries-other _ _ _ _ (at-if1 .if1 .left) (at-if2 .if2 .left) (c .refuse3 .ensures)
+    (carried-not _ (at-layout-of .layout-of .ensures) (at-if3 .if3 .taken))
+
+refuse-requires-4 : tie.Need-refuse-requires-4
+refuse-requires-4 c κs = search needs
+
+returns-4 : tie.Need-returns-4
+returns-4 c =
+    let at-if4 = c .before in
+    let at-if3 = at-if4 .before in
+    let at-layout-of = at-if3 .before .before in
+    let at-if2 = at-layout-of .before in
+    let at-if1 = at-if2 .before .before .before in
+    entries-full _ _ _ _ (at-if1 .if1 .left) (at-if2 .if2 .left)
+    (carried-so _ (at-layout-of .layout-of .ensures) (at-if3 .if3 .left)) (c .refuse4 .ensures) (at-if4 .if4 .taken)
+
+cast-take-entries : tie.Need-cast-take-entries
+cast-take-entries c = search needs
+
+take-entries-requires : tie.Need-take-entries-requires
+take-entries-requires c κs = search needs
+
+slice-write-cursor : tie.Need-slice-write-cursor
+slice-write-cursor c = search needs
+
+cast-cursor : tie.Need-cast-cursor
+cast-cursor c = search needs
+
+slice-write-cursor-2 : tie.Need-slice-write-cursor-2
+slice-write-cursor-2 c = search needs
+
+same-length : tie.Need-same-length
+same-length c = search needs
+
+same-length-2 : tie.Need-same-length-2
+same-length-2 c = search needs
+
+returns-5 : tie.Need-returns-5
+returns-5 c =
+    let at-take = c .before .before .before .before in
+    let at-if4 = at-take .before .before in
+    let at-if3 = at-if4 .before in
+    let at-layout-of = at-if3 .before .before in
+    let at-if2 = at-layout-of .before in
+    let at-if1 = at-if2 .before .before .before in
+    entries-taken _ _ _ _ (at-if1 .if1 .left) (at-if2 .if2 .left)
+    (carried-so _ (at-layout-of .layout-of .ensures) (at-if3 .if3 .left)) (at-if4 .if4 .left) (at-take .take-entries .ensures)
+
+pub mrt-rib-entries-spec : {M : Type 1} → statement M
+mrt-rib-entries-spec =
+    tie.close
+    (tie.spec
+    refuse-requires
+    returns
+    slice-read-at
+    slice-read-left
+    refuse-requires-2
+    returns-2
+    layout-of-requires
+    refuse-requires-3
+    returns-3
+    refuse-requires-4
+    returns-4
+    cast-take-entries
+    take-entries-requires
+    slice-write-cursor
+    cast-cursor
+    slice-write-cursor-2
+    same-length
+    same-length-2
+    returns-5)
