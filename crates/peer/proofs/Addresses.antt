@@ -2,16 +2,18 @@
 use Prim.Native.Nat.{ℕ, zero, suc, _+_, _-_, _*_, _<_, _≤_}
 use mathlib.Core.Path.{_≡_, refl, sym, _∙_, ap}
 use mathlib.Core.List.{List, [], _∷_, _++_, append-assoc}
-use mathlib.Core.Bool.{Bool, true, false, _&&_, and-true, and-false}
-use native.Mathlib.Nat.{zero-add}
+use mathlib.Core.Bool.{Bool, true, false, _&&_, and-true, and-false, and-assoc}
+use native.Mathlib.Nat.{zero-add, add-zero, add-suc}
 use native.Mathlib.Numerals.{add-one}
 use native.Mathlib.Omega.{arith}
 use borrow.Author.Tests.{eq-eqb, ne-eqb, eqb-true}
 use lib.ListN.{length, getD, set, take, drop, replicate, length-append, length-replicate}
 use lib.Dec.{eqb}
-use Rattle.octets.specs.Octets.{beAt, patch}
+use Rattle.octets.specs.Octets.{beAt, patch, Octets}
+use Rattle.octets.proofs.Numbers.{be-same}
 use Rattle.octets.proofs.Stores.{stores}
-use Rattle.peer.specs.Peer.{octetsAt, addressAt, sameOctets}
+use Rattle.peer.specs.Peer.{addressSize, octetsAt, addressAt, sameOctets}
+use Rattle.peer.proofs.Sizes.{address-either}
 
 pub length-octets : (s : List ℕ) (at n : ℕ) → length (octetsAt s at n) ≡ n
 unfolding octetsAt
@@ -63,27 +65,8 @@ pub written-all : (s l : List ℕ) (at : ℕ) {t : List ℕ} {i n : ℕ} → i �
     → t ≡ patch s at (octetsAt l 0 n)
 written-all s l at {t} {i} {n} h k e = let z : i ≡ n = omega arith in rw z at e
 
--- ---- comparing: the first i octets are the same
+-- ---- comparing: four octets as one number
 module _ (a b : List ℕ) where
-  more : (i : ℕ) → sameOctets (i + 1) a b ≡ sameOctets i a b && eqb (getD a i 0) (getD b i 0)
-  unfolding sameOctets
-  more i = rw add-one
-
-  -- the octets from i on are the same
-  module _ (n i : ℕ) (s : sameOctets n a b ≡ sameOctets i a b) where
-    before : 0 < i → sameOctets n a b ≡ sameOctets (i - 1) a b && eqb (getD a (i - 1) 0) (getD b (i - 1) 0)
-    before l = let k : i ≡ i - 1 + 1 = omega arith in s ∙ ap (λ (m : ℕ). sameOctets m a b) k ∙ more (i - 1)
-
-    pub same-turn : 0 < i → getD a (i - 1) 0 ≡ getD b (i - 1) 0 → sameOctets n a b ≡ sameOctets (i - 1) a b
-    same-turn l e = before l ∙ simp (eq-eqb _ _ e, and-true)
-
-    pub differs : 0 < i → (getD a (i - 1) 0 ≡ getD b (i - 1) 0 → ⊥) → false ≡ sameOctets n a b
-    differs l e = sym (before l ∙ simp (ne-eqb _ _ e, and-false))
-
-    pub same-all : i ≤ 0 → true ≡ sameOctets n a b
-    unfolding sameOctets
-    same-all l = let z : i ≡ 0 = omega arith in sym (s ∙ ap (λ (m : ℕ). sameOctets m a b) z)
-
   -- the same octets are the same number, over the width
   both : (x y : Bool) → (x && y) ≡ true → (x ≡ true) × (y ≡ true)
   both true true e = (refl, refl)
@@ -115,3 +98,45 @@ module _ (a b : List ℕ) where
           let z : 4 + (n - 4) ≡ n = omega arith in
           absurd (d (same-number 4 (same-front 4 (n - 4) (rw z e))))
       by-test false e = sym e
+
+  module _ (o : Octets a) (p : Octets b) where
+    -- n octets, and the m after them as one number
+    same-join : (n m : ℕ) → (sameOctets n a b && eqb (beAt a n m) (beAt b n m)) ≡ sameOctets (n + m) a b
+    unfolding sameOctets beAt
+    same-join n zero = rw add-zero (and-true (sameOctets n a b))
+    same-join n (suc m) = rw (add-suc, ← same-join n m) (ap (λ (t : Bool). sameOctets n a b && t) (sym (be-same a b n m o p))
+        ∙ sym (and-assoc (sameOctets n a b) (eqb (beAt a n m) (beAt b n m)) (eqb (getD a (n + m) 0) (getD b (n + m) 0))))
+
+    same-four : eqb (beAt a 0 4) (beAt b 0 4) ≡ sameOctets 4 a b
+    unfolding sameOctets
+    same-four = same-join 0 4
+
+    same-fours : (eqb (beAt a 0 4) (beAt b 0 4) && eqb (beAt a 4 4) (beAt b 4 4) && eqb (beAt a 8 4) (beAt b 8 4) && eqb (beAt a 12 4) (beAt
+        b 12 4)) ≡ sameOctets 16 a b
+    same-fours = rw (same-four, same-join 4 4, same-join 8 4) (same-join 12 4)
+
+    -- the numbers as they are read, w the size of the address
+    module _ (kind : ℕ) {w : ℕ} (sized : w ≡ addressSize kind) where
+      pub same-short : {x y : ℕ} → w ≡ 4 → x ≡ beAt a 0 4 → y ≡ beAt b 0 4 → x ≡ y → true ≡ sameOctets (addressSize kind) a b
+      same-short e f g h = sym (ap (λ (n : ℕ). sameOctets n a b) (sym sized ∙ e) ∙ sym same-four ∙ eq-eqb (beAt a 0 4) (beAt b 0 4) (sym f ∙ h
+          ∙ g))
+
+      module _ (long : w ≡ 4 → ⊥) where
+        all-fours : sameOctets (addressSize kind) a b ≡ (eqb (beAt a 0 4) (beAt b 0 4) && eqb (beAt a 4 4) (beAt b 4 4) && eqb (beAt a 8 4)
+            (beAt b 8 4) && eqb (beAt a 12 4) (beAt b 12 4))
+        all-fours = ap (λ (n : ℕ). sameOctets n a b) (address-either kind (λ z. long (sized ∙ z))) ∙ sym same-fours
+
+        pub last-differ : {x y : ℕ} → x ≡ beAt a 12 4 → y ≡ beAt b 12 4 → (x ≡ y → ⊥) → false ≡ sameOctets (addressSize kind) a b
+        last-differ f g h = sym (all-fours ∙ simp (ne-eqb (beAt a 12 4) (beAt b 12 4) (λ z. h (f ∙ z ∙ sym g)), and-false))
+
+        pub third-differ : {x y : ℕ} → x ≡ beAt a 8 4 → y ≡ beAt b 8 4 → (x ≡ y → ⊥) → false ≡ sameOctets (addressSize kind) a b
+        third-differ f g h = sym (all-fours ∙ simp (ne-eqb (beAt a 8 4) (beAt b 8 4) (λ z. h (f ∙ z ∙ sym g)), and-false))
+
+        pub second-decide : {r s t u v w x y : ℕ} → r ≡ beAt a 0 4 → s ≡ beAt b 0 4 → r ≡ s → t ≡ beAt a 12 4 → u ≡ beAt b 12 4 → t ≡ u
+            → v ≡ beAt a 8 4
+            → w ≡ beAt b 8 4 → v ≡ w → x ≡ beAt a 4 4 → y ≡ beAt b 4 4 → eqb x y ≡ sameOctets (addressSize kind) a b
+        second-decide r s e t u f v w g x y =
+            let first : eqb (beAt a 0 4) (beAt b 0 4) ≡ true = eq-eqb _ _ (sym r ∙ e ∙ s) in
+            let last : eqb (beAt a 12 4) (beAt b 12 4) ≡ true = eq-eqb _ _ (sym t ∙ f ∙ u) in
+            let third : eqb (beAt a 8 4) (beAt b 8 4) ≡ true = eq-eqb _ _ (sym v ∙ g ∙ w) in
+            rw (x, y) (sym (all-fours ∙ simp (first, last, third, and-true)))

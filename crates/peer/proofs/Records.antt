@@ -2,10 +2,11 @@
 use Prim.Native.Nat.{ℕ, zero, suc, _+_, _-_, _/_, _%_, _<_, _≤_}
 use mathlib.Core.Path.{_≡_, refl, sym, _∙_, ap}
 use mathlib.Core.List.{List, [], _∷_, _++_}
-use mathlib.Core.Bool.{Bool, true, false}
+use mathlib.Core.Bool.{Bool, true, false, and-false}
 use native.Mathlib.Nat.{add-assoc}
 use native.Mathlib.Omega.{arith}
 use borrow.Author.Tests.{lt-ltb, le-ltb, le-leb, lt-leb, eq-eqb, ne-eqb}
+use lib.Dec.{eqb}
 use lib.ListN.{length, getD, length-append}
 use Rattle.octets.specs.Octets.{beAt, bytesOf, patch}
 use Rattle.octets.proofs.Numbers.{length-bytes}
@@ -13,8 +14,8 @@ use Rattle.octets.proofs.Stores.{stores}
 use Rattle.peer.specs.Peer.{addressSize, asSize, peerSize, octetsAt, addressAt, peerAt, unread, readPeer, stored, keyOf, sameOctets}
 use Rattle.peer.specs.Peer.{sameAddress, peerOctets, putPeer}
 use Rattle.peer.specs.declared.Peer.{Peer}
-use Rattle.peer.proofs.Sizes.{as-either, size-is}
-use Rattle.peer.proofs.Addresses.{length-octets}
+use Rattle.peer.proofs.Sizes.{as-either, address-least, size-is}
+use Rattle.peer.proofs.Addresses.{length-octets, front-differs}
 
 -- ---- the AS
 module _ (s : List ℕ) (at kind : ℕ) {w r : ℕ} (sized : w ≡ asSize kind) where
@@ -76,10 +77,14 @@ module _ (p key : Peer) where
   unfolding sameAddress
   other-family e = simp (ne-eqb _ _ e)
 
-  pub one-family : {n : ℕ} {r : Bool} → p .kind % 2 ≡ key .kind % 2 → n ≡ addressSize (key .kind) → r ≡ sameOctets n (p .addr) (key .addr)
+  pub other-front : (beAt (p .addr) 0 4 ≡ beAt (key .addr) 0 4 → ⊥) → false ≡ sameAddress p key
+  unfolding sameAddress
+  other-front d = rw (← front-differs (p .addr) (key .addr) (addressSize (key .kind)) (address-least (key .kind)) d) (sym (and-false (eqb (p .kind % 2) (key .kind % 2))))
+
+  pub one-family : {r : Bool} → p .kind % 2 ≡ key .kind % 2 → r ≡ sameOctets (addressSize (key .kind)) (p .addr) (key .addr)
       → r ≡ sameAddress p key
   unfolding sameAddress
-  one-family e n r = rw (r, n) (simp (eq-eqb _ _ e))
+  one-family e r = rw r (simp (eq-eqb _ _ e))
 
 -- ---- the writer
 module _ (s : List ℕ) (at : ℕ) (p : Peer) where

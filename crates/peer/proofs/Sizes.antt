@@ -17,6 +17,14 @@ module _ (kind : ℕ) where
   unfolding addressSize
   address-short e = simp (ne-eqb _ _ e)
 
+  pub address-either : (addressSize kind ≡ 4 → ⊥) → addressSize kind ≡ 16
+  unfolding addressSize
+  address-either = case (eqb (kind % 2) 1) refl
+    where
+      case : (z : Bool) → eqb (kind % 2) 1 ≡ z → (addressSize kind ≡ 4 → ⊥) → addressSize kind ≡ 16
+      case true e f = simp e
+      case false e f = absurd (f (simp e))
+
   pub as-long : kind / 2 % 2 ≡ 1 → 4 ≡ asSize kind
   unfolding asSize wide
   as-long e = simp (eq-eqb _ _ e)

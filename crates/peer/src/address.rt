@@ -2,7 +2,7 @@
 ghost use mathlib.Core.Path.{_≡_};
 ghost use Prim.Native.Nat.{_≤_, _+_};
 ghost use lib.ListN.{length};
-ghost use Rattle.peer.specs.Peer.{addressAt, keyOf, sameAddress, sameOctets, stored};
+ghost use Rattle.peer.specs.Peer.{addressAt, addressSize, keyOf, sameAddress, sameOctets, stored};
 use crate::Peer;
 use crate::kind::address_size;
 
@@ -54,33 +54,38 @@ pub fn stored_peer(p: Peer) -> Peer
     }
 }
 
-// Whether two addresses have the same first n octets. Most differ in the first four, which are looked at as one number; of the
-// rest the last ones differ most.
-fn same_octets(a: [u8; 16], b: [u8; 16], n: usize) -> bool
-    requires { ⌜ (4 ≤ n) × (n ≤ 16) ⌝ }
-    ensures { λ r. ⌜ r ≡ sameOctets n a b ⌝ }
+// Whether two addresses of a type's size are the same. Four octets are looked at as one number; past the first four the last ones
+// differ most.
+fn same_octets(a: &[u8], b: &[u8], kind: u8) -> bool
+    ensures { λ r. ⌜ r ≡ sameOctets (addressSize kind) (now (a .entry)) (now (b .entry)) ⌝ }
 {
-    if octets::be32(&a, 0) != octets::be32(&b, 0) {
+    if octets::be32(a, 0) != octets::be32(b, 0) {
         return false;
     }
-    let mut i = n;
-    while 0 < i {
-        i -= 1;
-        if a[i] != b[i] {
-            return false;
-        }
+    if address_size(kind) == 4 {
+        return true;
     }
-    true
+    if octets::be32(a, 12) != octets::be32(b, 12) {
+        return false;
+    }
+    if octets::be32(a, 8) != octets::be32(b, 8) {
+        return false;
+    }
+    octets::be32(a, 4) == octets::be32(b, 4)
 }
 
-// Whether a peer has the key's address: its family, and the octets that the family has.
+// Whether a peer has the key's address: its family, and the octets that the family has. The first four, which both families have,
+// are looked at before the family: they nearly always differ, and the processor foresees that.
 pub fn same_address(p: Peer, key: Peer) -> bool
     ensures answer { λ r. ⌜ r ≡ sameAddress p key ⌝ }
 {
+    let a = p.addr;
+    let b = key.addr;
+    if octets::be32(&a, 0) != octets::be32(&b, 0) {
+        return false;
+    }
     if p.kind % 2 != key.kind % 2 {
         return false;
     }
-    let a = p.addr;
-    let b = key.addr;
-    same_octets(a, b, address_size(key.kind))
+    same_octets(&a, &b, key.kind)
 }
