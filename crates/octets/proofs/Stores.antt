@@ -48,6 +48,16 @@ patch-between p a b q at l e =
     patch-within (p ++ (a ++ q)) at b h
     ∙ rw (take-at p (a ++ q) at l, ← append-assoc p a q, drop-at (p ++ a) q (at + length b) k, append-assoc p b q)
 
+-- octets stored over as many others
+pub patch-over : (s : List ℕ) (at : ℕ) (xs ys : List ℕ) → length xs ≡ length ys → at + length xs ≤ length s → patch (patch s at xs) at ys ≡ patch s at ys
+patch-over s at xs ys e h =
+    let p : List ℕ = take at s in
+    let q : List ℕ = drop (at + length xs) s in
+    let l : length p ≡ at = length-take-le at s (omega arith) in
+    ap (λ (t : List ℕ). patch t at ys) (patch-within s at xs h ∙ append-assoc p xs q)
+    ∙ patch-between p xs ys q at l e
+    ∙ sym (append-assoc p ys q) ∙ ap (λ (n : ℕ). p ++ ys ++ drop (at + n) s) e ∙ sym (patch-within s at ys (omega arith))
+
 -- stores in the part that starts at e, seen in the whole
 pub patch-part : (s : List ℕ) (e at : ℕ) (bs : List ℕ) → e ≤ length s → take e s ++ patch (drop e s) at bs ≡ patch s (e + at) bs
 unfolding patch

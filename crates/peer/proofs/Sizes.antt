@@ -65,6 +65,14 @@ module _ (kind : ℕ) where
       case true e = simp e (omega arith)
       case false e = simp e (omega arith)
 
+  pub as-least : 2 ≤ asSize kind
+  unfolding asSize
+  as-least = case (wide kind) refl
+    where
+      case : (z : Bool) → wide kind ≡ z → 2 ≤ asSize kind
+      case true e = simp e (omega arith)
+      case false e = simp e (omega arith)
+
   pub size-is : peerSize kind ≡ 5 + addressSize kind + asSize kind
   unfolding peerSize
   size-is = refl

@@ -2,21 +2,44 @@
 ghost use mathlib.Core.Path.{_≡_};
 ghost use Prim.Native.Nat.{_≤_, _+_};
 ghost use lib.ListN.{length};
-ghost use Rattle.peer.specs.Peer.{addressAt, addressSize, keyOf, sameAddress, sameOctets, stored};
+ghost use Rattle.octets.specs.Octets.{patch};
+ghost use Rattle.peer.specs.Peer.{addressAt, addressSize, keyOf, octetsAt, sameAddress, sameOctets, stored};
 use crate::Peer;
 use crate::kind::address_size;
 
-// An address of n octets that stands at an offset.
-pub(crate) fn read_address(s: &[u8], at: usize, n: usize) -> [u8; 16]
-    requires { ⌜ (n ≤ 16) × (at + n ≤ length (now s)) ⌝ }
-    ensures { λ r. ⌜ r ≡ addressAt (now (s .entry)) at n ⌝ }
+// Copies four octets, as one number between parts of four: with lengths that are written out there is nothing to test.
+fn put_four(out: &mut [u8], to: usize, s: &[u8], at: usize)
+    requires { ⌜ (to + 4 ≤ length (now out)) × (at + 4 ≤ length (now s)) ⌝ }
+    ensures { λ _. ⌜ now (out .exit) ≡ patch (now (out .entry)) to (octetsAt (now (s .entry)) at 4) ⌝ }
+{
+    let end = to + 4;
+    let stop = at + 4;
+    let v = octets::be32(&s[at..stop], 0);
+    octets::put_be32(&mut out[to..end], 0, v);
+}
+
+// Copies an address of the type's size.
+pub(crate) fn put_address(out: &mut [u8], to: usize, s: &[u8], at: usize, kind: u8)
+    requires { ⌜ (to + addressSize kind ≤ length (now out)) × (at + addressSize kind ≤ length (now s)) ⌝ }
+    ensures { λ _. ⌜ now (out .exit) ≡ patch (now (out .entry)) to (octetsAt (now (s .entry)) at (addressSize kind)) ⌝ }
+{
+    let size = address_size(kind);
+    put_four(out, to, s, at);
+    if size == 4 {
+        return;
+    }
+    put_four(out, to + 4, s, at + 4);
+    put_four(out, to + 8, s, at + 8);
+    put_four(out, to + 12, s, at + 12);
+}
+
+// The address of a type's size that stands at an offset.
+pub(crate) fn read_address(s: &[u8], at: usize, kind: u8) -> [u8; 16]
+    requires { ⌜ at + addressSize kind ≤ length (now s) ⌝ }
+    ensures { λ r. ⌜ r ≡ addressAt (now (s .entry)) at (addressSize kind) ⌝ }
 {
     let mut addr = [0u8; 16];
-    let mut i = 0;
-    while i < n {
-        addr[i] = s[at + i];
-        i += 1;
-    }
+    put_address(&mut addr, 0, s, at, kind);
     addr
 }
 
@@ -45,7 +68,7 @@ pub fn stored_peer(p: Peer) -> Peer
     ensures answer { λ r. ⌜ r ≡ stored p ⌝ }
 {
     let given = p.addr;
-    let addr = read_address(&given, 0, address_size(p.kind));
+    let addr = read_address(&given, 0, p.kind);
     Peer {
         kind: p.kind,
         id: p.id,
