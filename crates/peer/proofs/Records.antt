@@ -3,7 +3,7 @@ use Prim.Native.Nat.{ℕ, zero, suc, _+_, _-_, _*_, _/_, _%_, _<_, _≤_}
 use mathlib.Core.Path.{_≡_, refl, sym, _∙_, ap}
 use mathlib.Core.List.{List, [], _∷_, _++_}
 use mathlib.Core.Bool.{Bool, true, false, and-false}
-use native.Mathlib.Nat.{add-assoc}
+use native.Mathlib.Nat.{add-assoc, le-of-eq}
 use native.Mathlib.Omega.{arith}
 use borrow.Author.Tests.{lt-ltb, le-ltb, le-leb, lt-leb, eq-eqb, ne-eqb}
 use lib.Dec.{eqb}
@@ -80,7 +80,7 @@ as-stored s at kind asn {w} {x} {y} sized fits e f = case (wide kind) refl
         let m : at + w - 2 ≡ at = omega arith in
         let l : length high ≡ 2 = length-bytes 2 (asn / 65536) in
         last ∙ ap (λ (n : ℕ). patch t n low) m ∙ ap (λ (v : List ℕ). patch v at low) first
-        ∙ patch-over s at high low (l ∙ sym (length-bytes 2 (asn % 65536))) (omega arith) ∙ ap (patch s at) (bytes-cut asn)
+        ∙ patch-over s at high low (le-of-eq (l ∙ sym (length-bytes 2 (asn % 65536)))) (omega arith) ∙ ap (patch s at) (bytes-cut asn)
         ∙ ap (λ (n : ℕ). patch s at (bytesOf n asn)) (sym k)
 
 -- ---- the reader
