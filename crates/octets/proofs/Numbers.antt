@@ -1,9 +1,13 @@
--- Big-endian numbers over their width: two numbers side by side, numbers in a part, past the end, and there and back.
+-- Big-endian numbers over their width: two numbers side by side, numbers in a part, past the end, equal numbers, and there and
+-- back.
 use Prim.Native.Nat.{ℕ, zero, suc, _+_, _*_, _/_, _%_, _^_, _<_, _≤_}
 use mathlib.Core.Path.{_≡_, refl, sym, _∙_, ap}
 use mathlib.Core.List.{List, [], _∷_, _++_, append-assoc, append-nil}
+use mathlib.Core.Bool.{Bool, true, false, _&&_}
 use native.Mathlib.Nat.{add-zero, add-suc, suc-add, add-assoc, mul-assoc, add-mul, mul-one, pow-suc, div-lt-iff-lt-mul, div-add-mod', mod-lt, one-le-pow}
 use native.Mathlib.Omega.{arith}
+use borrow.Author.Tests.{eq-eqb, ne-eqb, eqb-true, eqb-false}
+use lib.Dec.{eqb}
 use lib.ListN.{length, getD, take, drop, length-append, length-take, length-drop, List·getD-eq-default}
 use lib.Seq.{getD-take, getD-drop, getD-at, take-suc}
 use Rattle.octets.specs.Octets.{beAt, bytesOf, part, Octets}
@@ -47,6 +51,17 @@ be-take s m at (suc n) h =
     let l : at + n ≤ m = omega arith in
     let k : at + n < m = omega arith in
     rw (be-take s m at n l, getD-take m s (at + n) 0 k)
+
+-- a digit more: two numbers are equal where both parts are
+pub digit : (x y z w : ℕ) → y < 256 → w < 256 → (t u : Bool) → eqb x z ≡ t → eqb y w ≡ u → (t && u) ≡ eqb (x * 256 + y) (z * 256 + w)
+digit x y z w l k true true p q = let a = eqb-true x z p in let b = eqb-true y w q in sym (eq-eqb (x * 256 + y) (z * 256 + w) (omega arith))
+digit x y z w l k true false p q = sym (ne-eqb (x * 256 + y) (z * 256 + w) (λ e. eqb-false y w q (omega arith)))
+digit x y z w l k false u p q = sym (ne-eqb (x * 256 + y) (z * 256 + w) (λ e. eqb-false x z p (omega arith)))
+
+-- an octet more: two numbers are equal exactly where their octets are
+pub be-same : (a b : List ℕ) (at n : ℕ) → Octets a → Octets b → (eqb (beAt a at n) (beAt b at n) && eqb (getD a (at + n) 0) (getD b (at + n) 0)) ≡ eqb (beAt a at (suc n)) (beAt b at (suc n))
+unfolding beAt
+be-same a b at n o p = digit (beAt a at n) (getD a (at + n) 0) (beAt b at n) (getD b (at + n) 0) (o (at + n)) (p (at + n)) _ _ refl refl
 
 pub length-bytes : (n v : ℕ) → length (bytesOf n v) ≡ n
 unfolding bytesOf

@@ -48,6 +48,28 @@ patch-between p a b q at l e =
     patch-within (p ++ (a ++ q)) at b h
     ∙ rw (take-at p (a ++ q) at l, ← append-assoc p a q, drop-at (p ++ a) q (at + length b) k, append-assoc p b q)
 
+-- octets stored over as many others, and over fewer
+over-same : (s : List ℕ) (at : ℕ) (xs ys : List ℕ) → length xs ≡ length ys → at + length xs ≤ length s → patch (patch s at xs) at ys ≡ patch s at ys
+over-same s at xs ys e h =
+    let p : List ℕ = take at s in
+    let q : List ℕ = drop (at + length xs) s in
+    let l : length p ≡ at = length-take-le at s (omega arith) in
+    ap (λ (t : List ℕ). patch t at ys) (patch-within s at xs h ∙ append-assoc p xs q)
+    ∙ patch-between p xs ys q at l e
+    ∙ sym (append-assoc p ys q) ∙ ap (λ (n : ℕ). p ++ ys ++ drop (at + n) s) e ∙ sym (patch-within s at ys (omega arith))
+
+pub patch-over : (s : List ℕ) (at : ℕ) (xs ys : List ℕ) → length xs ≤ length ys → at + length xs ≤ length s → patch (patch s at xs) at ys ≡ patch s at ys
+patch-over s at xs ys e h =
+    let n : ℕ = length xs in
+    let f : List ℕ = take n ys in
+    let r : List ℕ = drop n ys in
+    let l : length f ≡ n = length-take-le n ys e in
+    ap (patch (patch s at xs) at) (sym (take-append-drop n ys))
+    ∙ sym (stores (patch s at xs) at n f r l refl refl)
+    ∙ ap (λ (t : List ℕ). patch t (at + n) r) (over-same s at xs f (sym l) h)
+    ∙ stores s at n f r l refl refl
+    ∙ ap (patch s at) (take-append-drop n ys)
+
 -- stores in the part that starts at e, seen in the whole
 pub patch-part : (s : List ℕ) (e at : ℕ) (bs : List ℕ) → e ≤ length s → take e s ++ patch (drop e s) at bs ≡ patch s (e + at) bs
 unfolding patch
@@ -65,6 +87,9 @@ unfolding patch
 copy-turn s src at i h e =
     let l : length (take i src) ≡ i = length-take-le i src (omega arith) in
     rw (add-one, take-suc src i 0 h) (stores s at i (take i src) (getD src i 0 ∷ []) l e refl)
+
+pub copy-all : (s src : List ℕ) (at : ℕ) {t : List ℕ} {i m : ℕ} → i ≤ m → m ≤ i → t ≡ patch s at (take i src) → t ≡ patch s at (take m src)
+copy-all s src at {t} {i} {m} u v p = let z : i ≡ m = omega arith in rw z at p
 
 -- a copy ends with src, or where the room does: what of src has no room is dropped
 pub copy-done : (s src : List ℕ) (at : ℕ) {t : List ℕ} {i m : ℕ} → i ≤ m → m ≤ i → m ≡ min (length s - at) (length src) → t ≡ patch s at (take i src) → t ≡ patch s at src

@@ -1,28 +1,37 @@
 -- One peer: the AS in its field, and what the reader and the writer answer in each case.
-use Prim.Native.Nat.{ℕ, zero, suc, _+_, _-_, _/_, _%_, _<_, _≤_}
+use Prim.Native.Nat.{ℕ, zero, suc, _+_, _-_, _*_, _/_, _%_, _<_, _≤_}
 use mathlib.Core.Path.{_≡_, refl, sym, _∙_, ap}
 use mathlib.Core.List.{List, [], _∷_, _++_}
-use mathlib.Core.Bool.{Bool, true, false}
-use native.Mathlib.Nat.{add-assoc}
+use mathlib.Core.Bool.{Bool, true, false, and-false}
+use native.Mathlib.Nat.{add-assoc, le-of-eq}
 use native.Mathlib.Omega.{arith}
 use borrow.Author.Tests.{lt-ltb, le-ltb, le-leb, lt-leb, eq-eqb, ne-eqb}
-use lib.ListN.{length, getD, length-append}
-use Rattle.octets.specs.Octets.{beAt, bytesOf, patch}
-use Rattle.octets.proofs.Numbers.{length-bytes}
-use Rattle.octets.proofs.Stores.{stores}
-use Rattle.peer.specs.Peer.{addressSize, asSize, peerSize, octetsAt, addressAt, peerAt, unread, readPeer, stored, keyOf, sameOctets}
+use lib.Dec.{eqb}
+use lib.ListN.{length, getD, take, drop, length-append}
+use Rattle.octets.specs.Octets.{beAt, bytesOf, patch, part}
+use Rattle.octets.proofs.Numbers.{be-halves, bytes-halves, length-bytes}
+use Rattle.octets.proofs.Stores.{length-patch, patch-over, stores}
+use Rattle.octets.proofs.Parts.{be-front, patch-lent}
+use Rattle.peer.specs.Peer.{wide, addressSize, asSize, peerSize, octetsAt, addressAt, peerAt, unread, readPeer, stored, keyOf, sameOctets}
 use Rattle.peer.specs.Peer.{sameAddress, peerOctets, putPeer}
 use Rattle.peer.specs.declared.Peer.{Peer}
-use Rattle.peer.proofs.Sizes.{as-either, size-is}
-use Rattle.peer.proofs.Addresses.{length-octets}
+use Rattle.peer.proofs.Sizes.{as-either, as-least, address-least, size-is}
+use Rattle.peer.proofs.Addresses.{length-octets, front-differs}
 
 -- ---- the AS
-module _ (s : List ℕ) (at kind : ℕ) {w r : ℕ} (sized : w ≡ asSize kind) where
-  pub as-read-long : w ≡ 4 → r ≡ beAt s at 4 → r ≡ beAt s at (asSize kind)
-  as-read-long e h = h ∙ ap (beAt s at) (sym e ∙ sized)
+-- its first two octets and its last two, each lent as a part
+module _ (s : List ℕ) (at kind : ℕ) {w h : ℕ} (sized : w ≡ asSize kind) (high : h ≡ beAt (part s at (at + 2 - at)) 0 2) where
+  first-two : h ≡ beAt s at 2
+  first-two = high ∙ be-front s at (at + 2) 2 (omega arith)
 
-  pub as-read-short : (w ≡ 4 → ⊥) → r ≡ beAt s at 2 → r ≡ beAt s at (asSize kind)
-  as-read-short e h = h ∙ ap (beAt s at) (sym (as-either kind (λ z. e (sized ∙ z))))
+  pub as-read-long : {l : ℕ} → w ≡ 4 → l ≡ beAt (part s (at + w - 2) (at + w - (at + w - 2))) 0 2 → h * 65536 + l ≡ beAt s at (asSize kind)
+  as-read-long {l} e low =
+      let z : at + w - 2 ≡ at + 2 = omega arith in
+      let two : l ≡ beAt s (at + 2) 2 = low ∙ be-front s (at + w - 2) (at + w) 2 (omega arith) ∙ ap (λ (k : ℕ). beAt s k 2) z in
+      be-halves s at 2 2 first-two two ∙ ap (beAt s at) (sym e ∙ sized)
+
+  pub as-read-short : (w ≡ 4 → ⊥) → h ≡ beAt s at (asSize kind)
+  as-read-short e = first-two ∙ ap (beAt s at) (sym (as-either kind (λ z. e (sized ∙ z))))
 
 -- a number in two octets keeps what two octets hold of it
 bytes-cut : (v : ℕ) → bytesOf 2 (v % 65536) ≡ bytesOf 2 v
@@ -32,13 +41,47 @@ bytes-cut v =
     let l : v % 65536 % 256 ≡ v % 256 = omega arith in
     rw (h, l)
 
-module _ (s : List ℕ) (at kind asn : ℕ) {w : ℕ} {t : List ℕ} (sized : w ≡ asSize kind) where
-  pub as-put-long : w ≡ 4 → t ≡ patch s at (bytesOf 4 asn) → t ≡ patch s at (bytesOf (asSize kind) asn)
-  as-put-long e h = h ∙ ap (λ (k : ℕ). patch s at (bytesOf k asn)) (sym e ∙ sized)
+-- the high half and then the low one in the last two octets, each stored in a part
+pub as-stored : (s : List ℕ) (at kind asn : ℕ) {w : ℕ} {x y : List ℕ} → w ≡ asSize kind → at + asSize kind ≤ length s
+    → x ≡ patch (part s at (at + 2 - at)) 0 (bytesOf 2 (asn / 65536))
+    → y ≡ patch (part (take at s ++ (x ++ drop (at + 2 - at) (drop at s))) (at + w - 2) (at + w - (at + w - 2))) 0 (bytesOf 2 (asn % 65536))
+    → take (at + w - 2) (take at s ++ (x ++ drop (at + 2 - at) (drop at s)))
+    ++ (y ++ drop (at + w - (at + w - 2)) (drop (at + w - 2) (take at s ++ (x ++ drop (at + 2 - at) (drop at s)))))
+    ≡ patch s at (bytesOf (asSize kind) asn)
+unfolding asSize
+as-stored s at kind asn {w} {x} {y} sized fits e f = case (wide kind) refl
+  where
+    high : List ℕ
+    high = bytesOf 2 (asn / 65536)
 
-  pub as-put-short : (w ≡ 4 → ⊥) → t ≡ patch s at (bytesOf 2 (asn % 65536)) → t ≡ patch s at (bytesOf (asSize kind) asn)
-  as-put-short e h = h ∙ ap (patch s at) (bytes-cut asn) ∙ ap (λ (k : ℕ). patch s at (bytesOf k asn)) (sym (as-either kind (λ z. e (sized
-      ∙ z))))
+    low : List ℕ
+    low = bytesOf 2 (asn % 65536)
+
+    t : List ℕ
+    t = take at s ++ (x ++ drop (at + 2 - at) (drop at s))
+
+    first : t ≡ patch s at high
+    first = let l = as-least kind in patch-lent s at (at + 2) 2 high (length-bytes 2 (asn / 65536)) (omega arith) (omega arith) e
+
+    last : take (at + w - 2) t ++ (y ++ drop (at + w - (at + w - 2)) (drop (at + w - 2) t)) ≡ patch t (at + w - 2) low
+    last =
+        let l = as-least kind in
+        let n : length t ≡ length s = ap length first ∙ length-patch s at high in
+        patch-lent t (at + w - 2) (at + w) 2 low (length-bytes 2 (asn % 65536)) (omega arith) (omega arith) f
+
+    case : (z : Bool) → wide kind ≡ z → take (at + w - 2) t ++ (y ++ drop (at + w - (at + w - 2)) (drop (at + w - 2) t)) ≡ patch s at (bytesOf (asSize kind) asn)
+    case true z =
+        let k : asSize kind ≡ 4 = simp z in
+        let m : at + w - 2 ≡ at + 2 = omega arith in
+        stores s at 2 high low (length-bytes 2 (asn / 65536)) first (last ∙ ap (λ (n : ℕ). patch t n low) m)
+        ∙ ap (patch s at) (bytes-halves 2 2 asn) ∙ ap (λ (n : ℕ). patch s at (bytesOf n asn)) (sym k)
+    case false z =
+        let k : asSize kind ≡ 2 = simp z in
+        let m : at + w - 2 ≡ at = omega arith in
+        let l : length high ≡ 2 = length-bytes 2 (asn / 65536) in
+        last ∙ ap (λ (n : ℕ). patch t n low) m ∙ ap (λ (v : List ℕ). patch v at low) first
+        ∙ patch-over s at high low (le-of-eq (l ∙ sym (length-bytes 2 (asn % 65536)))) (omega arith) ∙ ap (patch s at) (bytes-cut asn)
+        ∙ ap (λ (n : ℕ). patch s at (bytesOf n asn)) (sym k)
 
 -- ---- the reader
 module _ (s : List ℕ) (at : ℕ) where
@@ -54,21 +97,21 @@ module _ (s : List ℕ) (at : ℕ) where
         let m : length s < at + peerSize (getD s at 0) = omega arith in
         simp (le-ltb _ _ inside, lt-leb _ _ m)
 
-    pub read-whole : {a id asn : ℕ} {l : List ℕ} → z ≤ length s - at → a ≡ addressSize k → l ≡ addressAt s (at + 5) a
-        → id ≡ beAt s (at + 1) 4
+    pub read-whole : {a id asn : ℕ} {l : List ℕ} → z ≤ length s - at → a ≡ addressSize k → l ≡ addressAt s (at + 5) (addressSize k)
+        → id ≡ beAt (part s (at + 1) (at + 5 - (at + 1))) 0 4
         → asn ≡ beAt s (at + 5 + a) (asSize k)
         → record { number = 0; peer = record { kind = k; id = id; addr = l; asn = asn }; next = at + z } ≡ readPeer s at
     unfolding readPeer peerAt
     read-whole fits ha hl hi hn =
         let e : z ≡ peerSize (getD s at 0) = size-of ∙ ap peerSize kind-is in
         let m : at + peerSize (getD s at 0) ≤ length s = omega arith in
-        rw (hn, hi, hl, ha, size-of, kind-is) (simp (le-ltb _ _ inside, le-leb _ _ m))
+        rw (hn, hi ∙ be-front s (at + 1) (at + 5) 4 (omega arith), hl, ha, size-of, kind-is) (simp (le-ltb _ _ inside, le-leb _ _ m))
 
 -- ---- the peer as it is stored
-pub store-is : (p : Peer) {n : ℕ} {l : List ℕ} → n ≡ addressSize (p .kind) → l ≡ addressAt (p .addr) 0 n
+pub store-is : (p : Peer) {l : List ℕ} → l ≡ addressAt (p .addr) 0 (addressSize (p .kind))
     → record { kind = p .kind; id = p .id; addr = l; asn = p .asn } ≡ stored p
 unfolding stored
-store-is p n l = rw (l, n)
+store-is p l = rw l
 
 -- ---- one address or two
 module _ (p key : Peer) where
@@ -76,10 +119,14 @@ module _ (p key : Peer) where
   unfolding sameAddress
   other-family e = simp (ne-eqb _ _ e)
 
-  pub one-family : {n : ℕ} {r : Bool} → p .kind % 2 ≡ key .kind % 2 → n ≡ addressSize (key .kind) → r ≡ sameOctets n (p .addr) (key .addr)
+  pub other-front : (beAt (p .addr) 0 4 ≡ beAt (key .addr) 0 4 → ⊥) → false ≡ sameAddress p key
+  unfolding sameAddress
+  other-front d = rw (← front-differs (p .addr) (key .addr) (addressSize (key .kind)) (address-least (key .kind)) d) (sym (and-false (eqb (p .kind % 2) (key .kind % 2))))
+
+  pub one-family : {r : Bool} → p .kind % 2 ≡ key .kind % 2 → r ≡ sameOctets (addressSize (key .kind)) (p .addr) (key .addr)
       → r ≡ sameAddress p key
   unfolding sameAddress
-  one-family e n r = rw (r, n) (simp (eq-eqb _ _ e))
+  one-family e r = rw r (simp (eq-eqb _ _ e))
 
 -- ---- the writer
 module _ (s : List ℕ) (at : ℕ) (p : Peer) where
@@ -95,17 +142,22 @@ module _ (s : List ℕ) (at : ℕ) (p : Peer) where
     put-late h l = without (omega arith)
 
     pub put-whole : {a : ℕ} {t u v w : List ℕ} → z ≤ length s → at ≤ length s - z → a ≡ addressSize (p .kind) → t ≡ patch s at (p .kind
-        ∷ []) → u ≡ patch t (at + 1) (bytesOf 4 (p .id))
-        → v ≡ patch u (at + 5) (octetsAt (p .addr) 0 a) → w ≡ patch v (at + 5 + a) (bytesOf (asSize (p .kind)) (p .asn))
+        ∷ []) → u ≡ patch (part t (at + 1) (at + 5 - (at + 1))) 0 (bytesOf 4 (p .id))
+        → v ≡ patch (take (at + 1) t ++ (u ++ drop (at + 5 - (at + 1)) (drop (at + 1) t))) (at + 5) (octetsAt (p .addr) 0 (addressSize (p .kind))) → w ≡ patch v (at + 5 + a) (bytesOf (asSize (p .kind)) (p .asn))
         → (w, at + z) ≡ putPeer s at p
     unfolding putPeer peerOctets
     put-whole {a} {t} {u} {v} {w} h k ha ht hu hv hw =
         let kinds : List ℕ = p .kind ∷ [] in
         let ids : List ℕ = bytesOf 4 (p .id) in
         let address : List ℕ = octetsAt (p .addr) 0 a in
-        let first : u ≡ patch s at (kinds ++ ids) = stores s at 1 kinds ids refl ht hu in
+        let room : length t ≡ length s = ap length ht ∙ length-patch s at kinds in
+        let k5 : 5 ≤ peerSize (p .kind) = (let q = size-is (p .kind) in omega arith) in
+        let x : List ℕ = take (at + 1) t ++ (u ++ drop (at + 5 - (at + 1)) (drop (at + 1) t)) in
+        let id : x ≡ patch t (at + 1) ids = patch-lent t (at + 1) (at + 5) 4 ids (length-bytes 4 (p .id)) (omega arith) (omega arith) hu in
+        let first : x ≡ patch s at (kinds ++ ids) = stores s at 1 kinds ids refl ht id in
         let five : length (kinds ++ ids) ≡ 5 = length-append kinds ids ∙ ap (λ (n : ℕ). 1 + n) (length-bytes 4 (p .id)) in
-        let then : v ≡ patch s at (kinds ++ ids ++ address) = stores s at 5 (kinds ++ ids) address five first hv in
+        let there : v ≡ patch x (at + 5) address = hv ∙ ap (λ (n : ℕ). patch x (at + 5) (octetsAt (p .addr) 0 n)) (sym ha) in
+        let then : v ≡ patch s at (kinds ++ ids ++ address) = stores s at 5 (kinds ++ ids) address five first there in
         let more : length (kinds ++ ids ++ address) ≡ 5 + a = length-append (kinds ++ ids) address
         ∙ (let o : length address ≡ a = length-octets (p .addr) 0 a in omega arith) in
         let last : w ≡ patch s at (kinds ++ ids ++ address ++ bytesOf (asSize (p .kind)) (p .asn)) =

@@ -6,15 +6,15 @@ use mathlib.Core.Bool.{Bool, true, false}
 use native.Mathlib.Nat.{add-assoc, add-zero, zero-add}
 use native.Mathlib.Omega.{arith}
 use borrow.Author.Tests.{ltb-false, le-ltb}
-use lib.ListN.{length, getD, take, drop, replicate, length-append, length-drop, length-replicate, List·getD-append}
-use lib.Seq.{take-suc, take-all, take-at, drop-at, drop-cons, getD-drop}
+use lib.ListN.{length, getD, take, drop, replicate, length-append, length-replicate, List·getD-append}
+use lib.Seq.{take-all, take-at, drop-at, drop-cons, getD-drop}
 use lib.Dec.{ltb}
 use Rattle.octets.specs.Octets.{beAt, bytesOf, part, Octets}
 use Rattle.octets.proofs.Numbers.{be-drop, be-lt, be-of-bytes, bytes-of-be, length-bytes}
 use Rattle.peer.specs.Peer.{wide, addressSize, asSize, peerSize, octetsAt, addressAt, peerAt, stored, unfit, peerOctets}
 use Rattle.peer.specs.declared.Peer.{Peer}
 use Rattle.peer.proofs.Sizes.{address-le, size-is}
-use Rattle.peer.proofs.Addresses.{length-octets}
+use Rattle.peer.proofs.Addresses.{length-octets, octets-part}
 use Rattle.octets.proofs.Parts.{part-join}
 
 -- ---- octets of a part
@@ -22,14 +22,6 @@ octets-drop : (s : List ℕ) (p at n : ℕ) → octetsAt (drop p s) at n ≡ oct
 unfolding octetsAt
 octets-drop s p at zero = refl
 octets-drop s p at (suc n) = rw (octets-drop s p at n, getD-drop p s (at + n) 0, add-assoc p at n)
-
-octets-part : (s : List ℕ) (at n : ℕ) → at + n ≤ length s → octetsAt s at n ≡ part s at n
-unfolding octetsAt
-octets-part s at zero h = refl
-octets-part s at (suc n) h =
-    let e : octetsAt s at n ≡ part s at n = octets-part s at n (omega arith) in
-    let l : n < length (drop at s) = simp length-drop (omega arith) in
-    rw (e, ← getD-drop at s n 0) (sym (take-suc (drop at s) n 0 l))
 
 -- octets between others
 octets-between : (p x q : List ℕ) (n m : ℕ) → length p ≡ n → length x ≡ m → octetsAt (p ++ x ++ q) n m ≡ x

@@ -17,6 +17,14 @@ module _ (kind : ℕ) where
   unfolding addressSize
   address-short e = simp (ne-eqb _ _ e)
 
+  pub address-either : (addressSize kind ≡ 4 → ⊥) → addressSize kind ≡ 16
+  unfolding addressSize
+  address-either = case (eqb (kind % 2) 1) refl
+    where
+      case : (z : Bool) → eqb (kind % 2) 1 ≡ z → (addressSize kind ≡ 4 → ⊥) → addressSize kind ≡ 16
+      case true e f = simp e
+      case false e f = absurd (f (simp e))
+
   pub as-long : kind / 2 % 2 ≡ 1 → 4 ≡ asSize kind
   unfolding asSize wide
   as-long e = simp (eq-eqb _ _ e)
@@ -54,6 +62,14 @@ module _ (kind : ℕ) where
   as-le = case (wide kind) refl
     where
       case : (z : Bool) → wide kind ≡ z → asSize kind ≤ 4
+      case true e = simp e (omega arith)
+      case false e = simp e (omega arith)
+
+  pub as-least : 2 ≤ asSize kind
+  unfolding asSize
+  as-least = case (wide kind) refl
+    where
+      case : (z : Bool) → wide kind ≡ z → 2 ≤ asSize kind
       case true e = simp e (omega arith)
       case false e = simp e (omega arith)
 

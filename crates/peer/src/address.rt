@@ -2,21 +2,44 @@
 ghost use mathlib.Core.Path.{_≡_};
 ghost use Prim.Native.Nat.{_≤_, _+_};
 ghost use lib.ListN.{length};
-ghost use Rattle.peer.specs.Peer.{addressAt, keyOf, sameAddress, sameOctets, stored};
+ghost use Rattle.octets.specs.Octets.{patch};
+ghost use Rattle.peer.specs.Peer.{addressAt, addressSize, keyOf, octetsAt, sameAddress, sameOctets, stored};
 use crate::Peer;
 use crate::kind::address_size;
 
-// An address of n octets that stands at an offset.
-pub(crate) fn read_address(s: &[u8], at: usize, n: usize) -> [u8; 16]
-    requires { ⌜ (n ≤ 16) × (at + n ≤ length (now s)) ⌝ }
-    ensures { λ r. ⌜ r ≡ addressAt (now (s .entry)) at n ⌝ }
+// Copies four octets, as one number between parts of four: with lengths that are written out there is nothing to test.
+fn put_four(out: &mut [u8], to: usize, s: &[u8], at: usize)
+    requires { ⌜ (to + 4 ≤ length (now out)) × (at + 4 ≤ length (now s)) ⌝ }
+    ensures { λ _. ⌜ now (out .exit) ≡ patch (now (out .entry)) to (octetsAt (now (s .entry)) at 4) ⌝ }
+{
+    let end = to + 4;
+    let stop = at + 4;
+    let v = octets::be32(&s[at..stop], 0);
+    octets::put_be32(&mut out[to..end], 0, v);
+}
+
+// Copies an address of the type's size.
+pub(crate) fn put_address(out: &mut [u8], to: usize, s: &[u8], at: usize, kind: u8)
+    requires { ⌜ (to + addressSize kind ≤ length (now out)) × (at + addressSize kind ≤ length (now s)) ⌝ }
+    ensures { λ _. ⌜ now (out .exit) ≡ patch (now (out .entry)) to (octetsAt (now (s .entry)) at (addressSize kind)) ⌝ }
+{
+    let size = address_size(kind);
+    put_four(out, to, s, at);
+    if size == 4 {
+        return;
+    }
+    put_four(out, to + 4, s, at + 4);
+    put_four(out, to + 8, s, at + 8);
+    put_four(out, to + 12, s, at + 12);
+}
+
+// The address of a type's size that stands at an offset.
+pub(crate) fn read_address(s: &[u8], at: usize, kind: u8) -> [u8; 16]
+    requires { ⌜ at + addressSize kind ≤ length (now s) ⌝ }
+    ensures { λ r. ⌜ r ≡ addressAt (now (s .entry)) at (addressSize kind) ⌝ }
 {
     let mut addr = [0u8; 16];
-    let mut i = 0;
-    while i < n {
-        addr[i] = s[at + i];
-        i += 1;
-    }
+    put_address(&mut addr, 0, s, at, kind);
     addr
 }
 
@@ -45,7 +68,7 @@ pub fn stored_peer(p: Peer) -> Peer
     ensures answer { λ r. ⌜ r ≡ stored p ⌝ }
 {
     let given = p.addr;
-    let addr = read_address(&given, 0, address_size(p.kind));
+    let addr = read_address(&given, 0, p.kind);
     Peer {
         kind: p.kind,
         id: p.id,
@@ -54,33 +77,38 @@ pub fn stored_peer(p: Peer) -> Peer
     }
 }
 
-// Whether two addresses have the same first n octets. Most differ in the first four, which are looked at as one number; of the
-// rest the last ones differ most.
-fn same_octets(a: [u8; 16], b: [u8; 16], n: usize) -> bool
-    requires { ⌜ (4 ≤ n) × (n ≤ 16) ⌝ }
-    ensures { λ r. ⌜ r ≡ sameOctets n a b ⌝ }
+// Whether two addresses of a type's size are the same. Four octets are looked at as one number; past the first four the last ones
+// differ most.
+fn same_octets(a: &[u8], b: &[u8], kind: u8) -> bool
+    ensures { λ r. ⌜ r ≡ sameOctets (addressSize kind) (now (a .entry)) (now (b .entry)) ⌝ }
 {
-    if octets::be32(&a, 0) != octets::be32(&b, 0) {
+    if octets::be32(a, 0) != octets::be32(b, 0) {
         return false;
     }
-    let mut i = n;
-    while 0 < i {
-        i -= 1;
-        if a[i] != b[i] {
-            return false;
-        }
+    if address_size(kind) == 4 {
+        return true;
     }
-    true
+    if octets::be32(a, 12) != octets::be32(b, 12) {
+        return false;
+    }
+    if octets::be32(a, 8) != octets::be32(b, 8) {
+        return false;
+    }
+    octets::be32(a, 4) == octets::be32(b, 4)
 }
 
-// Whether a peer has the key's address: its family, and the octets that the family has.
+// Whether a peer has the key's address: its family, and the octets that the family has. The first four, which both families have,
+// are looked at before the family: they nearly always differ, and the processor foresees that.
 pub fn same_address(p: Peer, key: Peer) -> bool
     ensures answer { λ r. ⌜ r ≡ sameAddress p key ⌝ }
 {
+    let a = p.addr;
+    let b = key.addr;
+    if octets::be32(&a, 0) != octets::be32(&b, 0) {
+        return false;
+    }
     if p.kind % 2 != key.kind % 2 {
         return false;
     }
-    let a = p.addr;
-    let b = key.addr;
-    same_octets(a, b, address_size(key.kind))
+    same_octets(&a, &b, key.kind)
 }

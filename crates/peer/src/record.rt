@@ -4,9 +4,10 @@ ghost use Prim.Native.Nat.{_≤_, _+_};
 ghost use lib.ListN.{length};
 ghost use Rattle.answer.specs.Refusal.{numberOf};
 ghost use Rattle.octets.specs.Octets.{beAt, bytesOf, patch};
-ghost use Rattle.peer.specs.Peer.{asSize, octetsAt, putPeer, readPeer, reading, unread};
+ghost use Rattle.peer.specs.Peer.{asSize, putPeer, readPeer, reading, unread};
 use crate::Peer;
 use crate::PeerRead;
+use crate::address::put_address;
 use crate::address::read_address;
 use crate::kind::address_size;
 use crate::kind::as_size;
@@ -14,14 +15,22 @@ use crate::kind::peer_size;
 use answer::Outcome;
 use answer::Refusal;
 
-// The AS that stands in the octets that the type gives it.
+// The AS that stands in the octets that the type gives it. Its first two octets and its last two are read of either type, so that
+// there is no branch to foresee.
 fn read_as(s: &[u8], at: usize, kind: u8) -> u32
+    requires { ⌜ at + asSize kind ≤ length (now s) ⌝ }
     ensures { λ r. ⌜ r ≡ beAt (now (s .entry)) at (asSize kind) ⌝ }
 {
-    if as_size(kind) == 4 {
-        return octets::be32(s, at);
+    let size = as_size(kind);
+    let first = at + 2;
+    let end = at + size;
+    let last = end - 2;
+    let high = octets::be16(&s[at..first], 0) as u32;
+    let low = octets::be16(&s[last..end], 0) as u32;
+    if size == 4 {
+        return high * 65536 + low;
     }
-    octets::be16(s, at) as u32
+    high
 }
 
 // The peer at an offset of a body.
@@ -38,14 +47,16 @@ pub fn read_peer(body: &[u8], at: usize) -> PeerRead
         return refuse(Refusal::BodyNotMet);
     }
     let length = address_size(kind);
-    let addr = read_address(body, at + 5, length);
+    let start = at + 1;
+    let front = at + 5;
+    let addr = read_address(body, front, kind);
     PeerRead {
         outcome: Outcome::Accepted,
         peer: Peer {
             kind,
-            id: octets::be32(body, at + 1),
+            id: octets::be32(&body[start..front], 0),
             addr,
-            asn: read_as(body, at + 5 + length, kind),
+            asn: read_as(body, front + length, kind),
         },
         next: at + size,
     }
@@ -67,27 +78,17 @@ fn refuse(why: Refusal) -> PeerRead
     }
 }
 
-// Copies the first n octets of an address.
-fn put_address(out: &mut [u8], at: usize, addr: [u8; 16], n: usize)
-    requires { ⌜ (n ≤ 16) × (at + n ≤ length (now out)) ⌝ }
-    ensures { λ _. ⌜ now (out .exit) ≡ patch (now (out .entry)) at (octetsAt addr 0 n) ⌝ }
-{
-    let mut i = 0;
-    while i < n {
-        out[at + i] = addr[i];
-        i += 1;
-    }
-}
-
-// The AS in the octets that the type gives it.
+// The AS in the octets that the type gives it: the high half, and the low half in the last two octets, which are the same two
+// where there are only two.
 fn put_as(out: &mut [u8], at: usize, kind: u8, asn: u32)
+    requires { ⌜ at + asSize kind ≤ length (now out) ⌝ }
     ensures { λ _. ⌜ now (out .exit) ≡ patch (now (out .entry)) at (bytesOf (asSize kind) asn) ⌝ }
 {
-    if as_size(kind) == 4 {
-        octets::put_be32(out, at, asn);
-        return;
-    }
-    octets::put_be16(out, at, (asn % 65536) as u16);
+    let first = at + 2;
+    let end = at + as_size(kind);
+    let last = end - 2;
+    octets::put_be16(&mut out[at..first], 0, (asn / 65536) as u16);
+    octets::put_be16(&mut out[last..end], 0, (asn % 65536) as u16);
 }
 
 // A peer's octets at an offset of the output, and where the next peer goes.
@@ -105,9 +106,11 @@ pub fn put_peer(out: &mut [u8], at: usize, p: Peer) -> usize
     }
     let length = address_size(kind);
     octets::put_octet(out, at, kind);
-    octets::put_be32(out, at + 1, p.id);
+    let start = at + 1;
+    let front = at + 5;
+    octets::put_be32(&mut out[start..front], 0, p.id);
     let addr = p.addr;
-    put_address(out, at + 5, addr, length);
-    put_as(out, at + 5 + length, kind, p.asn);
+    put_address(out, front, &addr, 0, kind);
+    put_as(out, front + length, kind, p.asn);
     at + size
 }

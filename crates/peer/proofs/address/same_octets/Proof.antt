@@ -1,73 +1,77 @@
-use Prim.Native.Nat.{_≤_}
-use mathlib.Core.Path.{_≡_, refl, sym, _∙_}
-use native.Mathlib.Omega.{arith}
+use mathlib.Core.Path.{sym, _∙_}
+use Rattle.peer.proofs.Sizes.{address-least}
+use Rattle.peer.proofs.Addresses.{front-differs, same-short, last-differ, third-differ, second-decide}
 use borrow.Author.Needs.{needs}
-use Rattle.peer.specs.Peer.{sameOctets}
-use Rattle.peer.proofs.Addresses.{same-all, same-turn, differs, front-differs}
 use Rattle.peer.proofs.address.same_octets.Statement.{statement}
 use Rattle.peer.proofs.address.same_octets.Tie as tie
 
-abbrev Inv-loop : tie.InvT-loop
-Inv-loop n a b i₀ i = (i ≤ n) × (sameOctets n a b ≡ sameOctets i a b)
-
-abbrev μ-loop : tie.MeasureT-loop
-μ-loop n a b i₀ i = i
-
-slice-aggregate-be32 : tie.Need-slice-aggregate-be32 Inv-loop μ-loop
-slice-aggregate-be32 c = search needs
-
-be32-requires : tie.Need-be32-requires Inv-loop μ-loop
+be32-requires : tie.Need-be32-requires
 be32-requires c κs = search needs
 
-slice-aggregate-be32-2 : tie.Need-slice-aggregate-be32-2 Inv-loop μ-loop
-slice-aggregate-be32-2 c = search needs
-
-be32-requires-2 : tie.Need-be32-requires-2 Inv-loop μ-loop
+be32-requires-2 : tie.Need-be32-requires-2
 be32-requires-2 c κs = search needs
 
-returns : tie.Need-returns Inv-loop μ-loop
-returns c = front-differs _ _ _ (omega arith) (λ e. c .if1 .taken (c .before .before .before .be32 .ensures ∙ e ∙ sym (c .before .be322 .ensures)))
+returns : tie.Need-returns
+returns c = front-differs _ _ _ (address-least _) (λ e. c .if1 .taken (c .before .before .be32 .ensures ∙ e ∙ sym (c .before .be322 .ensures)))
 
-loop-holds : tie.Need-loop-holds Inv-loop μ-loop
-loop-holds c = (omega arith, refl)
+address-size-requires : tie.Need-address-size-requires
+address-size-requires c κs = search needs
 
-sub-i : tie.Need-sub-i Inv-loop μ-loop
-sub-i c = omega arith
+returns-2 : tie.Need-returns-2
+returns-2 c =
+    same-short _ _ (λ i. c .before .before .before .before .before .before .shared-slice-known .given i .fits) (λ i. c .before .before .before .before .before .shared-slice-known2 .given i .fits)
+    _ (c .before .address-size .ensures) (c .if2 .taken) (c .before .before .before .before .be32 .ensures) (c .before .before .before .be322 .ensures) (c .before .before .if1 .left)
 
-array-read-if2 : tie.Need-array-read-if2 Inv-loop μ-loop
-array-read-if2 c = omega arith
+be32-requires-3 : tie.Need-be32-requires-3
+be32-requires-3 c κs = search needs
 
-array-read-if2-2 : tie.Need-array-read-if2-2 Inv-loop μ-loop
-array-read-if2-2 c = omega arith
+be32-requires-4 : tie.Need-be32-requires-4
+be32-requires-4 c κs = search needs
 
-returns-2 : tie.Need-returns-2 Inv-loop μ-loop
-returns-2 c = differs _ _ _ _ (c .before .before .loop .inv .1) (c .before .loop-test .taken) (c .if2 .taken)
+returns-3 : tie.Need-returns-3
+returns-3 c =
+    last-differ _ _ (λ i. c .before .before .before .before .before .before .before .before .before .shared-slice-known .given i .fits) (λ i. c .before .before .before .before .before .before .before .before .shared-slice-known2 .given i .fits)
+    _ (c .before .before .before .before .address-size .ensures) (c .before .before .before .if2 .left) (c .before .before .be323 .ensures) (c .before .be324 .ensures) (c .if3 .taken)
 
-loop-less : tie.Need-loop-less Inv-loop μ-loop
-loop-less c = omega arith
+be32-requires-5 : tie.Need-be32-requires-5
+be32-requires-5 c κs = search needs
 
-loop-again : tie.Need-loop-again Inv-loop μ-loop
-loop-again c = (omega arith, same-turn _ _ _ _ (c .before .before .loop .inv .1) (c .before .loop-test .taken) (c .if2 .left))
+be32-requires-6 : tie.Need-be32-requires-6
+be32-requires-6 c κs = search needs
 
-returns-3 : tie.Need-returns-3 Inv-loop μ-loop
-returns-3 c = same-all _ _ _ _ (c .before .loop .inv .1) (c .loop-test .left)
+returns-4 : tie.Need-returns-4
+returns-4 c =
+    third-differ _ _ (λ i. c .before .before .before .before .before .before .before .before .before .before .before .before .shared-slice-known .given i .fits) (λ i. c .before .before .before .before .before .before .before .before .before .before .before .shared-slice-known2 .given i .fits)
+    _ (c .before .before .before .before .before .before .before .address-size .ensures) (c .before .before .before .before .before .before .if2 .left) (c .before .before .be325 .ensures) (c .before .be326 .ensures) (c .if4 .taken)
+
+be32-requires-7 : tie.Need-be32-requires-7
+be32-requires-7 c κs = search needs
+
+be32-requires-8 : tie.Need-be32-requires-8
+be32-requires-8 c κs = search needs
+
+returns-5 : tie.Need-returns-5
+returns-5 c =
+    second-decide _ _ (λ i. c .before .before .before .before .before .before .before .before .before .before .before .before .before .before .shared-slice-known .given i .fits) (λ i. c .before .before .before .before .before .before .before .before .before .before .before .before .before .shared-slice-known2 .given i .fits)
+    _ (c .before .before .before .before .before .before .before .before .before .address-size .ensures) (c .before .before .before .before .before .before .before .before .if2 .left) (c .before .before .before .before .before .before .before .before .before .before .before .before .be32 .ensures) (c .before .before .before .before .before .before .before .before .before .before .before .be322 .ensures) (c .before .before .before .before .before .before .before .before .before .before .if1 .left)
+    (c .before .before .before .before .before .before .before .be323 .ensures) (c .before .before .before .before .before .before .be324 .ensures) (c .before .before .before .before .before .if3 .left) (c .before .before .before .before .be325 .ensures) (c .before .before .before .be326 .ensures)
+    (c .before .before .if4 .left) (c .before .be327 .ensures) (c .be328 .ensures)
 
 pub same-octets-spec : {M : Type 1} → statement M
 same-octets-spec =
     tie.close
     (tie.spec
-    Inv-loop
-    μ-loop
-    slice-aggregate-be32
     be32-requires
-    slice-aggregate-be32-2
     be32-requires-2
     returns
-    loop-holds
-    sub-i
-    array-read-if2
-    array-read-if2-2
+    address-size-requires
     returns-2
-    loop-less
-    loop-again
-    returns-3)
+    be32-requires-3
+    be32-requires-4
+    returns-3
+    be32-requires-5
+    be32-requires-6
+    returns-4
+    be32-requires-7
+    be32-requires-8
+    returns-5)

@@ -10,23 +10,12 @@ use Rattle.peer.proofs.address.stored_peer.Tie as tie
 slice-aggregate-read-address : tie.Need-slice-aggregate-read-address
 slice-aggregate-read-address c = search needs
 
-address-size-requires : tie.Need-address-size-requires
-address-size-requires c κs = search needs
-
 read-address-requires : tie.Need-read-address-requires
-read-address-requires c κs = let e : 16 ≡ length (c .before .before .before .args .p .addr) = slice-aggregate-read-address (c .before) in (
-  omega (arith, address-le (c .before .before .before .args .p .kind)),
-  omega (
-    arith,
-    address-le
-        (c .before .before .before .args .p .kind),
-  ),
-)
+read-address-requires c κs =
+    let e : 16 ≡ length (c .before .before .args .p .addr) = slice-aggregate-read-address c in omega (arith, address-le (c .before .before .args .p .kind))
 
 returns : tie.Need-returns
-returns c = store-is _ (c .before .address-size .ensures) (c .read-address .ensures)
+returns c = store-is _ (c .read-address .ensures)
 
 pub stored-peer-spec : {M : Type 1} → statement M
-stored-peer-spec =
-    tie.close
-    (tie.spec slice-aggregate-read-address address-size-requires read-address-requires returns)
+stored-peer-spec = tie.close (tie.spec slice-aggregate-read-address read-address-requires returns)

@@ -1,7 +1,7 @@
-use Rattle.octets.proofs.Stores.{length-patch}
-use mathlib.Core.Path.{ap, _∙_}
+use mathlib.Core.Path.{_≡_, ap, _∙_}
 use lib.ListN.{length}
 use native.Mathlib.Omega.{arith}
+use Rattle.octets.proofs.Stores.{length-patch}
 use Rattle.peer.proofs.Sizes.{address-le, size-is}
 use Rattle.peer.proofs.Records.{put-small, put-late, put-whole}
 use borrow.Author.Needs.{needs}
@@ -23,45 +23,35 @@ address-size-requires c κs = search needs
 put-octet-requires : tie.Need-put-octet-requires
 put-octet-requires c κs = search needs
 
-add-put-be32 : tie.Need-add-put-be32
-add-put-be32 c = search needs
+add-start : tie.Need-add-start
+add-start c = search needs
+
+add-front : tie.Need-add-front
+add-front c = search needs
+
+sub-put-be32 : tie.Need-sub-put-be32
+sub-put-be32 c = search needs
+
+part-put-be32-start : tie.Need-part-put-be32-start
+part-put-be32-start c = search needs
+
+part-put-be32-end : tie.Need-part-put-be32-end
+part-put-be32-end c = omega (arith, size-is (c .before .before .before .before .before .before .before .before .before .args .p .kind), ap length (c .before .before .put-octet .ensures) ∙ length-patch _ _ _)
 
 put-be32-requires : tie.Need-put-be32-requires
 put-be32-requires c κs = search needs
 
-add-put-address : tie.Need-add-put-address
-add-put-address c = search needs
+slice-aggregate-put-address : tie.Need-slice-aggregate-put-address
+slice-aggregate-put-address c = search needs
 
 put-address-requires : tie.Need-put-address-requires
-put-address-requires c κs =
-    let d = c .before .before .before .before .before .before .before .before .before .before .before in (
-      omega (arith, address-le (d .before .before .before .before .args .p .kind)),
-      omega (
-        arith,
-        size-is
-            (d .before .before .before .before .args .p .kind),
-        ap length (c .before .before .before .before .put-be32 .ensures)
-            ∙ length-patch _ _ _,
-        ap length (c .before .before .before .before .before .before .before .before .put-octet .ensures)
-            ∙ length-patch _ _ _,
-      ),
-    )
+put-address-requires c κs = let e : 16 ≡ length (c .before .before .before .before .before .before .before .before .before .before .before .before .before .before .before .before .args .p .addr) = slice-aggregate-put-address c in (omega (arith, size-is (c .before .before .before .before .before .before .before .before .before .before .before .before .before .before .before .before .args .p .kind), ap length (c .before .before .before .before .before .before .before .before .before .put-octet .ensures) ∙ length-patch _ _ _), omega (arith, address-le (c .before .before .before .before .before .before .before .before .before .before .before .before .before .before .before .before .args .p .kind)))
 
 add-put-as : tie.Need-add-put-as
-add-put-as c = search needs
-
-add-put-as-2 : tie.Need-add-put-as-2
-add-put-as-2 c =
-    let d = c .before .before .before .before .before .before .before .before .before .before .before in
-    omega (
-      arith,
-      address-le (d .before .before .before .before .before .before .before .before .args .p .kind),
-      size-is
-          (d .before .before .before .before .before .before .before .before .args .p .kind),
-    )
+add-put-as c = omega (arith, address-le (c .before .before .before .before .before .before .before .before .before .before .before .before .before .before .before .before .before .before .before .before .args .p .kind), size-is (c .before .before .before .before .before .before .before .before .before .before .before .before .before .before .before .before .before .before .before .before .args .p .kind))
 
 put-as-requires : tie.Need-put-as-requires
-put-as-requires c κs = search needs
+put-as-requires c κs = omega (arith, size-is (c .before .before .before .before .before .before .before .before .before .before .before .before .before .before .before .before .before .before .before .before .args .p .kind), ap length (c .before .before .before .before .before .before .before .before .before .before .before .before .before .put-octet .ensures) ∙ length-patch _ _ _, ap length (c .before .before .before .put-address .ensures) ∙ length-patch _ _ _)
 
 add-result : tie.Need-add-result
 add-result c = search needs
@@ -71,13 +61,9 @@ same-length c = search needs
 
 returns-3 : tie.Need-returns-3
 returns-3 c =
-    let d = c .before .before .before .before .before .before .before .before .before .before .before in
-    put-whole _ _ _ (d .before .before .before .before .before .before .before .before .before .peer-size .ensures)
-    (d .before .before .before .before .before .before .before .before .if1 .left)
-    (d .before .before .before .before .before .before .before .if2 .left)
-    (d .before .before .before .before .before .before .address-size .ensures) (d .before .before .before .before .put-octet .ensures)
-    (d .put-be32 .ensures) (c .before .before .before .before .before .before .put-address .ensures)
-    (c .before .before .put-as .ensures)
+    let d = c .before .before .before .before .before .before .before .before .before .before .before .before in
+    put-whole _ _ _ (d .before .before .before .before .before .before .before .before .before .peer-size .ensures) (d .before .before .before .before .before .before .before .before .if1 .left) (d .before .before .before .before .before .before .before .if2 .left)
+    (d .before .before .before .before .before .before .address-size .ensures) (d .before .before .before .before .put-octet .ensures) (d .put-be32 .ensures) (c .before .before .before .before .before .before .put-address .ensures) (c .before .before .put-as .ensures)
 
 pub put-peer-spec : {M : Type 1} → statement M
 put-peer-spec =
@@ -88,12 +74,15 @@ put-peer-spec =
     returns-2
     address-size-requires
     put-octet-requires
-    add-put-be32
+    add-start
+    add-front
+    sub-put-be32
+    part-put-be32-start
+    part-put-be32-end
     put-be32-requires
-    add-put-address
+    slice-aggregate-put-address
     put-address-requires
     add-put-as
-    add-put-as-2
     put-as-requires
     add-result
     same-length

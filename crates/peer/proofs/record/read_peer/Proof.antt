@@ -1,7 +1,7 @@
+use mathlib.Core.Path.{_∙_}
 use native.Mathlib.Omega.{arith}
 use Rattle.peer.proofs.Sizes.{address-le, size-is}
 use Rattle.peer.proofs.Records.{read-beyond, read-short, read-whole}
-use mathlib.Core.Path.{_∙_}
 use borrow.Author.Needs.{needs}
 use Rattle.peer.proofs.record.read_peer.Statement.{statement}
 use Rattle.peer.proofs.record.read_peer.Tie as tie
@@ -29,48 +29,41 @@ returns-2 c = c .refuse2 .ensures
 address-size-requires : tie.Need-address-size-requires
 address-size-requires c κs = search needs
 
-add-read-address : tie.Need-add-read-address
-add-read-address c = search needs
+add-start : tie.Need-add-start
+add-start c = search needs
+
+add-front : tie.Need-add-front
+add-front c = search needs
 
 read-address-requires : tie.Need-read-address-requires
-read-address-requires c κs = (
-  omega (arith, address-le (c .before .before .before .octet .result)),
-  omega (
-    arith,
-    size-is
-        (c .before .before .before .octet .result),
-  ),
-)
+read-address-requires c κs = omega (arith, size-is (c .before .before .before .octet .result))
 
-add-be32 : tie.Need-add-be32
-add-be32 c = search needs
+sub-be32 : tie.Need-sub-be32
+sub-be32 c = search needs
+
+part-be32-start : tie.Need-part-be32-start
+part-be32-start c = search needs
+
+part-be32-end : tie.Need-part-be32-end
+part-be32-end c = omega (arith, size-is (c .before .before .before .before .octet .result))
 
 be32-requires : tie.Need-be32-requires
 be32-requires c κs = search needs
 
 add-read-as : tie.Need-add-read-as
-add-read-as c = search needs
-
-add-read-as-2 : tie.Need-add-read-as-2
-add-read-as-2 c = omega (
-  arith,
-  address-le (c .before .before .before .before .before .octet .result),
-  size-is
-      (c .before .before .before .before .before .octet .result),
-)
+add-read-as c = omega (arith, address-le (c .before .before .before .before .before .before .octet .result), size-is (c .before .before .before .before .before .before .octet .result))
 
 read-as-requires : tie.Need-read-as-requires
-read-as-requires c κs = search needs
+read-as-requires c κs = omega (arith, size-is (c .before .before .before .before .before .before .octet .result))
 
-add-t18 : tie.Need-add-t18
-add-t18 c = search needs
+add-t22 : tie.Need-add-t22
+add-t22 c = search needs
 
 returns-3 : tie.Need-returns-3
 returns-3 c =
-    let d = c .before .before .before .before .before .before in
-    read-whole _ _ (d .before .if1 .left) (d .octet .ensures) (c .before .before .before .before .before .peer-size .ensures)
-    (c .before .before .before .before .if2 .left) (c .before .before .before .address-size .ensures)
-    (c .before .before .read-address .ensures) (c .before .be32 .ensures) (c .read-as .ensures)
+    read-whole _ _ (c .before .before .before .before .before .before .before .before .if1 .left) (c .before .before .before .before .before .before .before .octet .ensures) (c .before .before .before .before .before .before .peer-size .ensures)
+    (c .before .before .before .before .before .if2 .left) (c .before .before .before .before .address-size .ensures)
+    (c .before .before .before .read-address .ensures) (c .before .be32 .ensures) (c .read-as .ensures)
 
 pub read-peer-spec : {M : Type 1} → statement M
 read-peer-spec =
@@ -83,12 +76,14 @@ read-peer-spec =
     refuse-requires-2
     returns-2
     address-size-requires
-    add-read-address
+    add-start
+    add-front
     read-address-requires
-    add-be32
+    sub-be32
+    part-be32-start
+    part-be32-end
     be32-requires
     add-read-as
-    add-read-as-2
     read-as-requires
-    add-t18
+    add-t22
     returns-3)
