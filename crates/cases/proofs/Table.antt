@@ -6,7 +6,7 @@ use Rattle.header.specs.Kind.{known, timed, size}
 use Rattle.header.specs.Read.{header, headerAt}
 use Rattle.header.specs.Frame.{framed, frame}
 use Rattle.peer.specs.Peer.{wide, addressSize, asSize, peerSize}
-use Rattle.peer.specs.Table.{endAt, nameLength, peerCount, firstPeer, lastEnd, checkPeers}
+use Rattle.table.specs.Table.{endAt, nameLength, peerCount, firstPeer, lastEnd, checkPeers}
 use Rattle.rib.specs.Layout.{ipv4, ipv6, pathed, carried, mostBits, pathSize, prefixSize}
 use Rattle.rib.specs.Head.{bitsOf, countAt, declared, entriesAt, readable, checkRib}
 use Rattle.rib.specs.Entry.{attributesAt, entryEnd, fits, passed, readCount}

@@ -10,7 +10,7 @@ use lib.ListN.{replicate, length}
 use Rattle.octets.specs.Octets.{bytesOf}
 use Rattle.rules.specs.Ask.{over}
 use Rattle.header.specs.Read.{Heading, headerAt}
-use Rattle.peer.specs.Table.{checkPeers}
+use Rattle.table.specs.Table.{checkPeers}
 use Rattle.rib.specs.Rib.{ribOf}
 use Rattle.checks.specs.Bgp4mp.{bgp4mp}
 use Rattle.walk.specs.Judged.{Candidate, stands, fails}

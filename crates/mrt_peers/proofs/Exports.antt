@@ -13,8 +13,8 @@ use Rattle.peers.specs.Add.{adding, appendPeer, addPeer}
 use Rattle.peers.specs.declared.AddAnswer.{AddAnswer}
 use Rattle.peers.specs.declared.AddAnswer.the-variants.{Known, Added, Refused}
 use Rattle.peers.specs.Find.{Finding, lookUp, findPeer}
-use Rattle.peer.specs.Table.{heading}
-use Rattle.peer.specs.declared.TableAnswer.{TableAnswer}
+use Rattle.table.specs.Table.{heading}
+use Rattle.table.specs.declared.TableAnswer.{TableAnswer}
 use Rattle.peers.specs.Load.{Loading, loading}
 use Rattle.mrt_peers.specs.Load.{loadOut}
 use Rattle.mrt_peers.specs.Add.{addedAs, addedOut, addOut}

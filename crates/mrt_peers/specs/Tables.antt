@@ -1,7 +1,7 @@
 -- The values of peer tables, in the order of their fields (RFC 6396, 4.3.1; 01, Peer table).
 use Prim.Native.Nat.{ℕ}
 use mathlib.Core.List.{List, [], _∷_}
-use Rattle.peer.specs.Table.{Heading}
+use Rattle.table.specs.Table.{Heading}
 use Rattle.lent.specs.Export.{exported}
 
 -- a peer table: collector, where the view name starts and its octets, peers, where the first one starts and the last one ends

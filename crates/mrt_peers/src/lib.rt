@@ -1,6 +1,6 @@
 // Peer tables across the boundary. The calls over lent slots pass them on; what they decide, they ask of functions by value.
 ghost use mathlib.Core.Path.{_≡_};
-ghost use Rattle.peer.specs.Table.{checkPeers};
+ghost use Rattle.table.specs.Table.{checkPeers};
 ghost use Rattle.mrt_peers.specs.Tables.{tableOut};
 
 mod add;
@@ -13,7 +13,7 @@ pub use add::mrt_add_peer;
 pub use find::mrt_find_peer;
 pub use load::mrt_load_peers;
 use peer::Peer;
-use peer::TableAnswer;
+use table::TableAnswer;
 pub use write::mrt_write_peers;
 
 // What a lookup and an addition return: no id where they have refused.
@@ -41,7 +41,7 @@ pub(crate) struct Fresh {
 pub extern "C" fn mrt_check_peers(body: &[u8], out: &mut [u64]) -> u32
     ensures answer { λ r. ⌜ (now (out .exit), r) ≡ tableOut (now (out .entry)) (checkPeers (now (body .entry))) ⌝ }
 {
-    match peer::check_peers(body) {
+    match table::check_peers(body) {
         TableAnswer::Refused(r) => lent::refusal(r),
         TableAnswer::Table {
             collector,

@@ -1,10 +1,10 @@
 // A body read into slots.
 ghost use mathlib.Core.Path.{_≡_};
-ghost use Rattle.peer.specs.Table.{heading};
+ghost use Rattle.table.specs.Table.{heading};
 ghost use Rattle.peers.specs.Load.{loadPeers};
 ghost use Rattle.mrt_peers.specs.Load.{loadOut};
 use peer::Peer;
-use peer::TableAnswer;
+use table::TableAnswer;
 
 // The number of an answer, 0 where the body is read.
 fn number_of(a: TableAnswer) -> u32

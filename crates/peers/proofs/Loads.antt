@@ -9,10 +9,10 @@ use borrow.Author.Tests.{ltb-true, ltb-false}
 use lib.ListN.{length, set, getD}
 use lib.Dec.{ltb}
 use Rattle.peer.specs.Peer.{peerSize, peerAt, Reading, readPeer}
-use Rattle.peer.specs.Table.{Heading, heading, endAt, checkPeers}
+use Rattle.table.specs.Table.{Heading, heading, endAt, checkPeers}
 use Rattle.peer.specs.declared.Peer.{Peer}
-use Rattle.peer.specs.declared.TableAnswer.{TableAnswer}
-use Rattle.peer.proofs.Tables.{end-none, end-more, held-within}
+use Rattle.table.specs.declared.TableAnswer.{TableAnswer}
+use Rattle.table.proofs.Tables.{end-none, end-more, held-within}
 use Rattle.peer.proofs.Records.{read-fits}
 use Rattle.peers.specs.Load.{filled, headFor, loadPeers, loading}
 

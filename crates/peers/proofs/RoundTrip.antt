@@ -17,10 +17,10 @@ use Rattle.octets.specs.Octets.{beAt, bytesOf, part, Octets}
 use Rattle.octets.proofs.Parts.{part-join}
 use Rattle.octets.proofs.Numbers.{be-of-bytes, bytes-of-be, length-bytes}
 use Rattle.peer.specs.Peer.{nobody, peerSize, peerAt, peerOctets, stored, unfit}
-use Rattle.peer.specs.Table.{Heading, refused, endAt, nameLength, peerCount, firstPeer, lastEnd, checkPeers}
+use Rattle.table.specs.Table.{Heading, refused, endAt, nameLength, peerCount, firstPeer, lastEnd, checkPeers}
 use Rattle.peer.specs.declared.Peer.{Peer}
 use Rattle.octets.proofs.Numbers.{be-lt}
-use Rattle.peer.proofs.Tables.{end-none, end-more, end-le}
+use Rattle.table.proofs.Tables.{end-none, end-more, end-le}
 use Rattle.peer.proofs.RoundTrip.{peer-drop, peer-of-octets, kind-of-octets, octets-of-peer, fits-of-peer}
 use Rattle.peers.specs.Slots.{wrongCount}
 use Rattle.peers.specs.Load.{filled, headFor, loadPeers}

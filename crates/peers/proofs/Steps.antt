@@ -17,10 +17,10 @@ use Rattle.octets.proofs.Numbers.{length-bytes}
 use Rattle.octets.proofs.Stores.{stores}
 use Rattle.answer.specs.declared.Refusal.{Refusal}
 use Rattle.peer.specs.Peer.{sameAddress, peerSize, unfit}
-use Rattle.peer.specs.Table.{Heading, heading, refused, checkPeers}
+use Rattle.table.specs.Table.{Heading, heading, refused, checkPeers}
 use Rattle.peer.specs.declared.Peer.{Peer}
-use Rattle.peer.specs.declared.TableAnswer.{TableAnswer}
-use Rattle.peer.specs.declared.TableAnswer.the-variants as B
+use Rattle.table.specs.declared.TableAnswer.{TableAnswer}
+use Rattle.table.specs.declared.TableAnswer.the-variants as B
 use Rattle.peers.specs.Slots.{wrongCount}
 use Rattle.peers.specs.Find.{Finding, found, finding}
 use Rattle.peers.specs.Load.{headFor}

@@ -3,9 +3,10 @@ use Prim.Native.Nat.{ℕ}
 use mathlib.Core.Path.{_≡_, refl, sym, _∙_, ap}
 use mathlib.Core.List.{List}
 use Rattle.peer.specs.declared.Peer.{Peer}
-use Rattle.peer.specs.declared.TableAnswer.{TableAnswer}
+use Rattle.table.specs.declared.TableAnswer.{TableAnswer}
 use Rattle.answer.proofs.Refusals.{number-not-zero, number-unique}
-use Rattle.peer.proofs.Unique.{outcome-unique, heading-unique}
+use Rattle.peer.proofs.Unique.{outcome-unique}
+use Rattle.table.proofs.Unique.{heading-unique}
 use Rattle.peers.specs.Slots.{Slot, slot}
 use Rattle.peers.specs.Find.{Finding, finding}
 use Rattle.peers.specs.Load.{Loading, loading}

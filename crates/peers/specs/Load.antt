@@ -5,9 +5,9 @@ use mathlib.Core.Bool.{cond}
 use lib.ListN.{length, set}
 use lib.Dec.{ltb}
 use Rattle.peer.specs.Peer.{peerAt}
-use Rattle.peer.specs.Table.{Heading, heading, refused, endAt, checkPeers}
+use Rattle.table.specs.Table.{Heading, heading, refused, endAt, checkPeers}
 use Rattle.peer.specs.declared.Peer.{Peer}
-use Rattle.peer.specs.declared.TableAnswer.{TableAnswer}
+use Rattle.table.specs.declared.TableAnswer.{TableAnswer}
 
 -- the body's head, and the slots after the call
 pub record Loading : Type 0 where

@@ -14,7 +14,7 @@ pub use find::find_peer;
 pub use find::peer_at;
 pub use load::load_peers;
 use peer::Peer;
-use peer::TableAnswer;
+use table::TableAnswer;
 pub use write::write_peers;
 
 // What asking for the peer of an id answers.

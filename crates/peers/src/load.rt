@@ -3,7 +3,7 @@ ghost use mathlib.Core.Path.{_≡_};
 ghost use Rattle.peers.specs.Load.{loadPeers, loading};
 use crate::step::plan_load;
 use peer::Peer;
-use peer::TableAnswer;
+use table::TableAnswer;
 
 // The peers of a body in the first slots, or a refusal that leaves every slot as it was.
 pub fn load_peers(body: &[u8], slots: &mut [Peer]) -> TableAnswer

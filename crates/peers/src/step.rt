@@ -8,7 +8,7 @@ ghost use Rattle.answer.specs.Refusal.{numberOf};
 ghost use Rattle.answer.specs.declared.Written.the-variants.{Refused};
 ghost use Rattle.octets.specs.Octets.{patch};
 ghost use Rattle.peer.specs.Peer.{nobody};
-ghost use Rattle.peer.specs.Table.{heading};
+ghost use Rattle.table.specs.Table.{heading};
 ghost use Rattle.peers.specs.Slots.{slot};
 ghost use Rattle.peers.specs.Find.{finding, lost};
 ghost use Rattle.peers.specs.Load.{headFor};
@@ -28,7 +28,7 @@ use answer::Outcome;
 use answer::Refusal;
 use answer::Written;
 use peer::Peer;
-use peer::TableAnswer;
+use table::TableAnswer;
 
 // How many slots are in use: none where the count is wrong.
 pub(crate) fn in_use(slots: usize, count: usize) -> usize
@@ -99,7 +99,7 @@ pub(crate) fn judge(best: FindAnswer, i: usize, p: Peer, key: Peer) -> Search
 pub(crate) fn plan_load(body: &[u8], slots: usize) -> Plan
     ensures { λ r. ⌜ (heading (r .answer) ≡ headFor (now (body .entry)) slots) × (r .count ≡ headFor (now (body .entry)) slots .count) × (r .first ≡ headFor (now (body .entry)) slots .first) ⌝ }
 {
-    let answer = peer::check_peers(body);
+    let answer = table::check_peers(body);
     match answer {
         TableAnswer::Refused(r) => Plan {
             answer: TableAnswer::Refused(r),

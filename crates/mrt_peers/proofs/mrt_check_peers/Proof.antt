@@ -1,6 +1,6 @@
 use mathlib.Core.Path.{refl}
-use Rattle.peer.specs.Table.{Heading, heading}
-use Rattle.peer.specs.declared.TableAnswer.the-variants.{Refused}
+use Rattle.table.specs.Table.{Heading, heading}
+use Rattle.table.specs.declared.TableAnswer.the-variants.{Refused}
 use Rattle.mrt_peers.specs.Tables.{tableValues}
 use Rattle.lent.proofs.Handing.{refuses, hands}
 use borrow.Author.Needs.{needs}

@@ -38,12 +38,12 @@ use denote.Triple.Table.{entered, cited}
 use denote.Triple.Walked.{says, Stays, stay-dropped, gave-slice, walkOf, goes-dropped, goes-gave-slice, Walks, ends-at, walked, walk-meets}
 use denote.Triple.Clauses.{lasts}
 use denote.Exit.{yes}
-use Rattle.peer.specs.Table.{heading}
+use Rattle.table.specs.Table.{heading}
 use Rattle.peer.specs.declared.Peer.{Peer}
-use Rattle.peer.specs.declared.TableAnswer.{TableAnswer}
+use Rattle.table.specs.declared.TableAnswer.{TableAnswer}
 use Rattle.peer.proofs.Peer as T
-use Rattle.peer.proofs.TableAnswer as B
-use Rattle.peer.proofs.TableAnswer.Laws as B′
+use Rattle.table.proofs.TableAnswer as B
+use Rattle.table.proofs.TableAnswer.Laws as B′
 use Rattle.peers.specs.Load.{loading, loadPeers}
 use Rattle.peers.proofs.load_peers as load′
 use Rattle.peers.proofs.load_peers.Symbol as load-def

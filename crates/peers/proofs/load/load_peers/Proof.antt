@@ -52,17 +52,17 @@ use denote.Triple.Walked.{says, Stays, stay-none-slice, stay-slice, walkOf, goes
 use denote.Triple.Clauses.{ensured, lasts}
 use denote.Exit.{yes}
 use Rattle.peer.specs.Peer.{nobody, reading, readPeer}
-use Rattle.peer.specs.Table.{heading, endAt}
+use Rattle.table.specs.Table.{heading, endAt}
 use Rattle.peer.specs.declared.Peer.{Peer}
 use Rattle.peer.specs.declared.PeerRead.{PeerRead}
-use Rattle.peer.specs.declared.TableAnswer.{TableAnswer}
-use Rattle.peer.proofs.Tables.{end-none}
+use Rattle.table.specs.declared.TableAnswer.{TableAnswer}
+use Rattle.table.proofs.Tables.{end-none}
 use Rattle.peer.proofs.Peer as T
 use Rattle.peer.proofs.Peer.Laws as T′
 use Rattle.peer.proofs.PeerRead as G
 use Rattle.peer.proofs.PeerRead.Laws as G′
-use Rattle.peer.proofs.TableAnswer as B
-use Rattle.peer.proofs.TableAnswer.Laws as B′
+use Rattle.table.proofs.TableAnswer as B
+use Rattle.table.proofs.TableAnswer.Laws as B′
 use Rattle.peer.proofs.read_peer as reads
 use Rattle.peer.proofs.read_peer.Symbol as reads-def
 use Rattle.peer.proofs.read_peer.Symbol.{name as #read-peer}

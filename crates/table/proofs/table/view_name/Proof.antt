@@ -1,7 +1,7 @@
-use Rattle.peer.proofs.Tables.{name-beyond, name-cut, name-whole}
+use Rattle.table.proofs.Tables.{name-beyond, name-cut, name-whole}
 use borrow.Author.Needs.{needs}
-use Rattle.peer.proofs.table.view_name.Statement.{statement}
-use Rattle.peer.proofs.table.view_name.Tie as tie
+use Rattle.table.proofs.table.view_name.Statement.{statement}
+use Rattle.table.proofs.table.view_name.Tie as tie
 
 sub-result : tie.Need-sub-result
 sub-result c = search needs

@@ -7,9 +7,9 @@ use lib.ListN.{length, getD}
 use lib.Dec.{leb}
 use Rattle.answer.specs.Refusal.{numberOf}
 use Rattle.octets.specs.Octets.{beAt}
 use Rattle.peer.specs.Peer.{peerSize}
-use Rattle.peer.specs.declared.TableAnswer.{TableAnswer}
-use Rattle.peer.specs.declared.TableAnswer.the-variants.{Table, Refused}
+use Rattle.table.specs.declared.TableAnswer.{TableAnswer}
+use Rattle.table.specs.declared.TableAnswer.the-variants.{Table, Refused}
 
 -- an answer in numbers: the refusal's number or 0, the collector, where the view name starts and how many octets it has,
 -- how many peers there are, where the first one starts, and where the last one ends

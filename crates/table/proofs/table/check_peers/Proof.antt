@@ -1,13 +1,13 @@
 use Rattle.peer.specs.Peer.{peerSize}
-use Rattle.peer.proofs.Tables.{short-head, short-name, short-peer, held, end-none, end-turn, count-at, first-at}
-use Rattle.peer.specs.Table.{endAt, firstPeer}
+use Rattle.table.proofs.Tables.{short-head, short-name, short-peer, held, end-none, end-turn, count-at, first-at}
+use Rattle.table.specs.Table.{endAt, firstPeer}
 use lib.ListN.{length}
 use mathlib.Core.Path.{_≡_, _∙_, ap}
 use Prim.Native.Nat.{_≤_, _-_}
 use borrow.Author.Needs.{needs}
 use native.Mathlib.Omega.{arith}
-use Rattle.peer.proofs.table.check_peers.Statement.{statement}
-use Rattle.peer.proofs.table.check_peers.Tie as tie
+use Rattle.table.proofs.table.check_peers.Statement.{statement}
+use Rattle.table.proofs.table.check_peers.Tie as tie
 
 abbrev Inv-loop : tie.InvT-loop
 Inv-loop body n name count at₀ i₀ at i = (i ≤ count) × (at ≡ endAt body (firstPeer body) i) × (at ≤ length body)

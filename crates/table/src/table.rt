@@ -1,9 +1,8 @@
 // The body of the table.
 ghost use mathlib.Core.Path.{_≡_};
 ghost use Rattle.octets.specs.Octets.{part};
-ghost use Rattle.peer.specs.Table.{checkPeers, heading};
+ghost use Rattle.table.specs.Table.{checkPeers, heading};
 use crate::TableAnswer;
-use crate::kind::peer_size;
 use answer::Refusal;
 
 // The body's head, where the body holds every declared peer.
@@ -22,7 +21,7 @@ pub fn check_peers(body: &[u8]) -> TableAnswer
     let mut at = 8 + length;
     let mut i = 0;
     while i < count {
-        let size = peer_size(octets::octet(body, at));
+        let size = peer::peer_size(octets::octet(body, at));
         if n - at < size {
             return TableAnswer::Refused(Refusal::BodyNotMet);
         }

@@ -11,8 +11,8 @@ use lib.Dec.{leb}
 use lib.ListN.{length, getD, take, drop, length-drop, drop-of-length-le}
 use lib.Seq.{take-all}
 use Rattle.octets.specs.Octets.{beAt, part}
 use Rattle.peer.specs.Peer.{peerSize}
-use Rattle.peer.specs.Table.{Heading, refused, endAt, nameLength, peerCount, firstPeer, lastEnd, checkPeers}
+use Rattle.table.specs.Table.{Heading, refused, endAt, nameLength, peerCount, firstPeer, lastEnd, checkPeers}
 
 -- ---- where peers end
 module _ (s : List ℕ) (at : ℕ) where
