@@ -8,14 +8,14 @@ use lib.ListN.{length}
 use lib.Dec.{ltb, eqb}
 use Rattle.lent.specs.Export.{sixteenOf}
 use Rattle.peer.specs.declared.Peer.{Peer}
-use Rattle.peers.specs.Slots.{wrongCount}
+use Rattle.peer_slots.specs.Used.{wrongCount}
 use Rattle.peers.specs.Add.{adding, appendPeer, addPeer}
 use Rattle.peers.specs.declared.AddAnswer.{AddAnswer}
 use Rattle.peers.specs.declared.AddAnswer.the-variants.{Known, Added, Refused}
 use Rattle.peers.specs.Find.{Finding, lookUp, findPeer}
 use Rattle.table.specs.Table.{heading}
 use Rattle.table.specs.declared.TableAnswer.{TableAnswer}
-use Rattle.peers.specs.Load.{Loading, loading}
+use Rattle.peers_read.specs.Load.{Loading, loading}
 use Rattle.mrt_peers.specs.Load.{loadOut}
 use Rattle.mrt_peers.specs.Add.{addedAs, addedOut, addOut}
 use Rattle.mrt_peers.specs.Given.{countFor, keyFor, peerFor, freshOf}

@@ -2,7 +2,7 @@
 use Prim.Native.Nat.{ℕ}
 use mathlib.Core.List.{List}
 use Rattle.peer.specs.declared.Peer.{Peer}
-use Rattle.peers.specs.Load.{Loading}
+use Rattle.peers_read.specs.Load.{Loading}
 
 -- the slots after the call, and the refusal's number or 0
 abbrev pub loadOut : Loading → List Peer × ℕ

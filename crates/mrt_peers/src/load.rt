@@ -1,7 +1,7 @@
 // A body read into slots.
 ghost use mathlib.Core.Path.{_≡_};
 ghost use Rattle.table.specs.Table.{heading};
-ghost use Rattle.peers.specs.Load.{loadPeers};
+ghost use Rattle.peers_read.specs.Load.{loadPeers};
 ghost use Rattle.mrt_peers.specs.Load.{loadOut};
 use peer::Peer;
 use table::TableAnswer;
@@ -28,5 +28,5 @@ fn number_of(a: TableAnswer) -> u32
 pub extern "C" fn mrt_load_peers(body: &[u8], slots: &mut [Peer]) -> u32
     ensures answer { λ r. ⌜ (now (slots .exit), r) ≡ loadOut (loadPeers (now (body .entry)) (now (slots .entry))) ⌝ }
 {
-    number_of(peers::load_peers(body, slots))
+    number_of(peers_read::load_peers(body, slots))
 }

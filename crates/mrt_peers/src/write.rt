@@ -1,7 +1,7 @@
 // The slots written as a body.
 ghost use mathlib.Core.Path.{_≡_};
 ghost use Rattle.lent.specs.Writer.{writtenOut};
-ghost use Rattle.peers.specs.Write.{writePeers};
+ghost use Rattle.peers_write.specs.Write.{writePeers};
 use lent::Wrote;
 use peer::Peer;
 
@@ -16,5 +16,5 @@ pub extern "C" fn mrt_write_peers(
 ) -> Wrote
     ensures answer { λ r. ⌜ (now (out .exit), r) ≡ writtenOut (writePeers (now (out .entry)) collector (now (view .entry)) (now (slots .entry)) count) ⌝ }
 {
-    lent::wrote_of(peers::write_peers(out, collector, view, slots, count))
+    lent::wrote_of(peers_write::write_peers(out, collector, view, slots, count))
 }

@@ -9,7 +9,7 @@ use lib.ListN.{length, set}
 use lib.Dec.{ltb, leb, eqb}
 use Rattle.peer.specs.Peer.{stored}
 use Rattle.peer.specs.declared.Peer.{Peer}
-use Rattle.peers.specs.Slots.{wrongCount}
+use Rattle.peer_slots.specs.Used.{wrongCount}
 use Rattle.peers.specs.Find.{Finding, lookUp}
 use Rattle.peers.specs.Add.{Adding, adding, appendPeer, addPeer}
 use Rattle.peers.specs.Steps.{newPlace, placeOf}

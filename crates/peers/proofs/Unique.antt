@@ -3,13 +3,10 @@ use Prim.Native.Nat.{ℕ}
 use mathlib.Core.Path.{_≡_, refl, sym, _∙_, ap}
 use mathlib.Core.List.{List}
 use Rattle.peer.specs.declared.Peer.{Peer}
-use Rattle.table.specs.declared.TableAnswer.{TableAnswer}
 use Rattle.answer.proofs.Refusals.{number-not-zero, number-unique}
 use Rattle.peer.proofs.Unique.{outcome-unique}
-use Rattle.table.proofs.Unique.{heading-unique}
 use Rattle.peers.specs.Slots.{Slot, slot}
 use Rattle.peers.specs.Find.{Finding, finding}
-use Rattle.peers.specs.Load.{Loading, loading}
 use Rattle.peers.specs.Add.{Adding, adding}
 use Rattle.peers.specs.declared.PeerAnswer.{PeerAnswer}
 use Rattle.peers.specs.declared.FindAnswer.{FindAnswer}
@@ -28,9 +25,6 @@ finding-unique (Id m) (Id n) e = λ i. Id (e i .id)
 finding-unique (Id m) (Refused q) e = absurd (number-not-zero q (ap (λ (x : Finding). x .number) (sym e)))
 finding-unique (Refused r) (Id n) e = absurd (number-not-zero r (ap (λ (x : Finding). x .number) e))
 finding-unique (Refused r) (Refused q) e = ap Refused (number-unique r q (ap (λ (x : Finding). x .number) e))
-
-pub loading-unique : (a b : TableAnswer) (l m : List Peer) → loading a l ≡ loading b m → (a ≡ b) × (l ≡ m)
-loading-unique a b l m e = (heading-unique a b (ap (λ (x : Loading). x .head) e), ap (λ (x : Loading). x .slots) e)
 
 adding-answer : (a b : AddAnswer) (l m : List Peer) → adding a l ≡ adding b m → a ≡ b
 adding-answer (A.Known i) (A.Known j) l m e = λ x. A.Known (e x .id)

@@ -8,7 +8,7 @@ use lib.Dec.{leb, eqb}
 use Rattle.answer.specs.Refusal.{numberOf}
 use Rattle.peer.specs.Peer.{stored}
 use Rattle.peer.specs.declared.Peer.{Peer}
-use Rattle.peers.specs.Slots.{wrongCount}
+use Rattle.peer_slots.specs.Used.{wrongCount}
 use Rattle.peers.specs.Find.{lookUp}
 use Rattle.peers.specs.declared.AddAnswer.{AddAnswer}
 use Rattle.peers.specs.declared.AddAnswer.the-variants.{Known, Added, Refused}

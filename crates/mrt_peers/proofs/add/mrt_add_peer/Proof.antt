@@ -44,7 +44,7 @@ use Rattle.peer.proofs.Peer as T
 use Rattle.peer.proofs.Peer.Laws as T′
 use Rattle.peers.specs.Add.{adding, addPeer}
 use Rattle.peers.specs.declared.AddAnswer.{AddAnswer}
-use Rattle.peers.proofs.Shape.{vals}
+use Rattle.peer_slots.proofs.Shape.{vals}
 use Rattle.peers.proofs.AddAnswer as B
 use Rattle.peers.proofs.AddAnswer.Laws as B′
 use Rattle.peers.proofs.add_peer as add′

@@ -1,4 +1,4 @@
--- `mrt_peers::mrt_load_peers` meets its contract: a walk of its MIR, by hand, of two calls. `peers::load_peers` is asked for what the
+-- `mrt_peers::mrt_load_peers` meets its contract: a walk of its MIR, by hand, of two calls. `peers_read::load_peers` is asked for what the
 -- function is itself lent, for good, and says what the slots hold after it. Assumes nothing.
 use mathlib.Core.Path.{_≡_, refl, ap, subst}
 use Prim.Native.Nat.{ℕ}
@@ -44,11 +44,11 @@ use Rattle.table.specs.declared.TableAnswer.{TableAnswer}
 use Rattle.peer.proofs.Peer as T
 use Rattle.table.proofs.TableAnswer as B
 use Rattle.table.proofs.TableAnswer.Laws as B′
-use Rattle.peers.specs.Load.{loading, loadPeers}
-use Rattle.peers.proofs.load_peers as load′
-use Rattle.peers.proofs.load_peers.Symbol as load-def
-use Rattle.peers.proofs.load_peers.Symbol.{name as #load-peers}
-use Rattle.peers.proofs.load_peers.Met as load-thm
+use Rattle.peers_read.specs.Load.{loading, loadPeers}
+use Rattle.peers_read.proofs.load_peers as load′
+use Rattle.peers_read.proofs.load_peers.Symbol as load-def
+use Rattle.peers_read.proofs.load_peers.Symbol.{name as #load-peers}
+use Rattle.peers_read.proofs.load_peers.Met as load-thm
 use Rattle.mrt_peers.specs.Load.{loadOut}
 use Rattle.mrt_peers.proofs.Exports.{load-out}
 use Rattle.mrt_peers.proofs.load.number_of as of′
@@ -94,7 +94,7 @@ module _ {M : Type 1} (𝓤 : URA M) (H : Heap 𝓤) (A : Atoms 𝓤) (W : Given
   abbrev Post : Val → SProp 𝓤
   Post = walkOf 𝓤 H A mrt′.ended stayed (mrt′.clauses 𝓤 H A at-mem run) .post (((κ, (κ′, tt)), (q, (q′, tt)), tt, a, at), tt)
 
-  -- ---- the call of `peers::load_peers`: it binds what the function's own contract binds
+  -- ---- the call of `peers_read::load_peers`: it binds what the function's own contract binds
   abbrev toL : Loads 𝓤 H A at-mem run .Ghost
   toL = (((κ, (κ′, tt)), (q, (q′, tt)), tt, a, at), tt)
 
@@ -185,7 +185,7 @@ mrt-load-peers-spec 𝓤 H 𝓜 𝓖 𝓡 =
     entered 𝓤 H (tripleOf 𝓤 H (𝓖 .A) mrt′.signature (mrt′.spec 𝓤 H (𝓖 .A) (𝓜 .mem) (𝓡 .run)))
     (tables 𝓤 H 𝓜 𝓡 code.env .C) (tables 𝓤 H 𝓜 𝓡 code.env .Λ) #mrt-load-peers code.function (code.unfolded 𝓤 H 𝓜 𝓡)
     (load-meets 𝓤 H (𝓖 .A) (givenOf 𝓤 H 𝓜 𝓖) (𝓜 .mem) (𝓡 .run) (tablesOf 𝓤 H 𝓜 (tables 𝓤 H 𝓜 𝓡 code.env))
-    (cited 𝓤 H (Loads 𝓤 H (𝓖 .A) (𝓜 .mem) (𝓡 .run)) 𝓜 𝓡 code.env #load-peers load-def.routine code.calls-peers·load-peers
+    (cited 𝓤 H (Loads 𝓤 H (𝓖 .A) (𝓜 .mem) (𝓡 .run)) 𝓜 𝓡 code.env #load-peers load-def.routine code.calls-peers-read·load-peers
     (load-thm.met 𝓤 H 𝓜 𝓖 𝓡))
     (cited 𝓤 H (Ofs 𝓤 H (𝓖 .A) (𝓜 .mem) (𝓡 .run)) 𝓜 𝓡 code.env #number-of of-def.routine code.calls-mrt-peers·load·number-of
     (of-thm.met 𝓤 H 𝓜 𝓖 𝓡)))

@@ -1,4 +1,4 @@
--- `mrt_peers::mrt_write_peers` meets its contract: a walk of its MIR, by hand, of two calls. `peers::write_peers` is asked for what the
+-- `mrt_peers::mrt_write_peers` meets its contract: a walk of its MIR, by hand, of two calls. `peers_write::write_peers` is asked for what the
 -- function is itself lent, for good, and says what the output holds after it. Assumes nothing.
 use mathlib.Core.Path.{_≡_, refl, ap, subst}
 use Prim.Native.Nat.{ℕ, _<_, _^_}
@@ -54,11 +54,11 @@ use Rattle.lent.proofs.wrote_of.Symbol.{name as #wrote-of}
 use Rattle.lent.proofs.wrote_of.Met as of-thm
 use Rattle.peer.specs.declared.Peer.{Peer}
 use Rattle.peer.proofs.Peer as T
-use Rattle.peers.specs.Write.{writePeers}
-use Rattle.peers.proofs.write_peers as write′
-use Rattle.peers.proofs.write_peers.Symbol as write-def
-use Rattle.peers.proofs.write_peers.Symbol.{name as #write-peers}
-use Rattle.peers.proofs.write_peers.Met as write-thm
+use Rattle.peers_write.specs.Write.{writePeers}
+use Rattle.peers_write.proofs.write_peers as write′
+use Rattle.peers_write.proofs.write_peers.Symbol as write-def
+use Rattle.peers_write.proofs.write_peers.Symbol.{name as #write-peers}
+use Rattle.peers_write.proofs.write_peers.Met as write-thm
 use Rattle.mrt_peers.proofs.Calls.{freely, asks, asks-fact}
 use Rattle.mrt_peers.proofs.write.mrt_write_peers.Key.{name as #mrt-write-peers}
 use Rattle.mrt_peers.proofs.write.mrt_write_peers as mrt′
@@ -114,7 +114,7 @@ module _ {M : Type 1} (𝓤 : URA M) (H : Heap 𝓤) (A : Atoms 𝓤) (W : Given
     tt,
   )
 
-  -- ---- the call of `peers::write_peers`: it binds what the function's own contract binds
+  -- ---- the call of `peers_write::write_peers`: it binds what the function's own contract binds
   abbrev toW : Writes 𝓤 H A at-mem run .Ghost
   toW = (((κ, (κ′, (κ″, tt))), (q, (q′, (q″, tt))), tt, a, at), tt)
 
@@ -239,7 +239,7 @@ mrt-write-peers-spec 𝓤 H 𝓜 𝓖 𝓡 =
     entered 𝓤 H (tripleOf 𝓤 H (𝓖 .A) mrt′.signature (mrt′.spec 𝓤 H (𝓖 .A) (𝓜 .mem) (𝓡 .run)))
     (tables 𝓤 H 𝓜 𝓡 code.env .C) (tables 𝓤 H 𝓜 𝓡 code.env .Λ) #mrt-write-peers code.function (code.unfolded 𝓤 H 𝓜 𝓡)
     (write-meets 𝓤 H (𝓖 .A) (givenOf 𝓤 H 𝓜 𝓖) (𝓜 .mem) (𝓡 .run) (tablesOf 𝓤 H 𝓜 (tables 𝓤 H 𝓜 𝓡 code.env))
-    (cited 𝓤 H (Writes 𝓤 H (𝓖 .A) (𝓜 .mem) (𝓡 .run)) 𝓜 𝓡 code.env #write-peers write-def.routine code.calls-peers·write-peers
+    (cited 𝓤 H (Writes 𝓤 H (𝓖 .A) (𝓜 .mem) (𝓡 .run)) 𝓜 𝓡 code.env #write-peers write-def.routine code.calls-peers-write·write-peers
     (write-thm.met 𝓤 H 𝓜 𝓖 𝓡))
     (cited 𝓤 H (Ofs 𝓤 H (𝓖 .A) (𝓜 .mem) (𝓡 .run)) 𝓜 𝓡 code.env #wrote-of of-def.routine code.calls-lent·wrote-of
     (of-thm.met 𝓤 H 𝓜 𝓖 𝓡)))

@@ -64,7 +64,7 @@ use Rattle.peers.specs.Steps.{placeOf}
 use Rattle.peers.specs.declared.FindAnswer.{FindAnswer}
 use Rattle.peers.specs.declared.AddAnswer.{AddAnswer}
 use Rattle.peers.specs.declared.Place.{Place}
-use Rattle.peers.proofs.Shape.{stride, vals, low, word, lentSlots}
+use Rattle.peer_slots.proofs.Shape.{stride, vals, low, word, lentSlots}
 use Rattle.peers.proofs.Adds.{add-stored, add-kept}
 use Rattle.peers.proofs.FindAnswer as F
 use Rattle.peers.proofs.FindAnswer.Laws as F′

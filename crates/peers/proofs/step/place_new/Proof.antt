@@ -1,4 +1,5 @@
-use Rattle.peers.proofs.Steps.{both, wrong-slots, wrong-large, right, place-wrong, place-last, place-full, place-free}
+use Rattle.peer_slots.proofs.Counts.{wrong-slots, wrong-large, right}
+use Rattle.peers.proofs.Steps.{both, place-wrong, place-last, place-full, place-free}
 use mathlib.Core.Path.{_∙_}
 use borrow.Author.Needs.{needs}
 use Rattle.peers.proofs.step.place_new.Statement.{statement}
