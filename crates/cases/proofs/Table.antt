@@ -7,8 +7,8 @@ use Rattle.header.specs.Read.{header, headerAt}
 use Rattle.header.specs.Frame.{framed, frame}
 use Rattle.peer.specs.Peer.{wide, addressSize, asSize, peerSize}
 use Rattle.table.specs.Table.{endAt, nameLength, peerCount, firstPeer, lastEnd, checkPeers}
-use Rattle.rib.specs.Layout.{ipv4, ipv6, pathed, carried, mostBits, pathSize, prefixSize}
-use Rattle.rib.specs.Head.{bitsOf, countAt, declared, entriesAt, readable, checkRib}
+use Rattle.rib_head.specs.Layout.{ipv4, ipv6, pathed, carried, mostBits, pathSize, prefixSize}
+use Rattle.rib_head.specs.Head.{bitsOf, countAt, declared, entriesAt, readable, checkRib}
 use Rattle.rib.specs.Entry.{attributesAt, entryEnd, fits, passed, readCount}
 use Rattle.rib.specs.Rib.{ribOf}
 use Rattle.checks.specs.Message.{messageBounds, message}

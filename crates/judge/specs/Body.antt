@@ -5,7 +5,7 @@ use mathlib.Core.List.{List}
 use mathlib.Core.Bool.{_||_, cond}
 use lib.Dec.{eqb}
 use Rattle.table.specs.Table.{checkPeers}
-use Rattle.rib.specs.Head.{checkRib}
+use Rattle.rib_head.specs.Head.{checkRib}
 use Rattle.checks.specs.Legacy.{legacy}
 use Rattle.checks.specs.Bgp4mp.{bgp4mp}
 

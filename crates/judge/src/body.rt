@@ -23,7 +23,7 @@ fn check_table_dump(body: &[u8], subtype: u16) -> Outcome
     ensures { λ r. ⌜ outcomeNumber r ≡ tableDump subtype (now (body .entry)) ⌝ }
 {
     if subtype != 1 {
-        return rib::check_rib(body, subtype);
+        return rib_head::check_rib(body, subtype);
     }
     let t = table::check_peers(body);
     match t {

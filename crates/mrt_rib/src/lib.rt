@@ -1,6 +1,6 @@
 // RIB bodies across the boundary, read.
 ghost use mathlib.Core.Path.{_≡_};
-ghost use Rattle.rib.specs.Age.{ageOf};
+ghost use Rattle.rib_head.specs.Age.{ageOf};
 ghost use Rattle.rib.specs.Entry.{entryOf, firstOf, nextOf};
 ghost use Rattle.rib.specs.Rib.{ribOf};
 ghost use Rattle.mrt_rib.specs.Bodies.{entryOut, placedOut, stepOut, ribOut};
@@ -116,5 +116,5 @@ pub extern "C" fn mrt_rib_next(
 pub extern "C" fn mrt_age(timestamp: u32, originated: u32) -> i64
     ensures answer { λ r. ⌜ r ≡ ageOf timestamp originated ⌝ }
 {
-    rib::age(timestamp, originated)
+    rib_head::age(timestamp, originated)
 }

@@ -96,7 +96,7 @@ fn hand_out(a: &[u8], subtype: u16, c: Cursor, out: &mut [u8]) -> usize {
 // x: the record's timestamp, the originated time, and two numbers: 1 where the age is the first less the second.
 pub(crate) fn age(x: &[u8], out: &mut [u8]) -> usize {
     let expected = difference(octets::be32(x, 20), octets::be32(x, 28));
-    let is_so = rib::age(octets::be32(x, 4), octets::be32(x, 12)) == expected;
+    let is_so = rib_head::age(octets::be32(x, 4), octets::be32(x, 12)) == expected;
     let values = [is_so as usize];
     numbers(out, 0, &values)
 }

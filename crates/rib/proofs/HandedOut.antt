@@ -8,11 +8,11 @@ use native.Mathlib.Nat.{sub-zero}
 use native.Mathlib.Omega.{arith}
 use lib.Dec.{ltb}
 use borrow.Author.Tests.{ne-eqb, ltb-true, ltb-false}
-use Rattle.rib.specs.Layout.{pathSize}
-use Rattle.rib.specs.Head.{declared, entriesAt, checkRib}
+use Rattle.rib_head.specs.Layout.{pathSize}
+use Rattle.rib_head.specs.Head.{declared, entriesAt, checkRib}
 use Rattle.rib.specs.Entry.{Placed, Stepped, noStep, fits, entryEnd, passed, readCount, entryOf, firstOf, nextOf}
 use Rattle.rib.specs.declared.Cursor.{Cursor}
-use Rattle.rib.proofs.Heads.{met-carried}
+use Rattle.rib_head.proofs.Heads.{met-carried}
 use Rattle.rib.proofs.Passing.{by-fit, left-le, stops-at}
 use Rattle.rib.proofs.Steps.{placed-met, next-none, next-short}
 use Rattle.rib.proofs.Bodies.{count-le, entry-met}

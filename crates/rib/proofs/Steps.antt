@@ -11,8 +11,8 @@ use Rattle.answer.specs.declared.Refusal.{Refusal}
 use Rattle.answer.specs.declared.Outcome.{Outcome}
 use Rattle.answer.specs.declared.Outcome.the-variants as outcome
 use Rattle.octets.specs.Octets.{beAt}
-use Rattle.rib.specs.Layout.{carried, pathSize, prefixSize}
-use Rattle.rib.specs.Head.{bitsOf, countAt, declared, entriesAt, checkRib}
+use Rattle.rib_head.specs.Layout.{carried, pathSize, prefixSize}
+use Rattle.rib_head.specs.Head.{bitsOf, countAt, declared, entriesAt, checkRib}
 use Rattle.rib.specs.Entry.{Placed, noStep, entryValues, fits, entryEnd, entryHere, passed, placed, firstOf, afterOf, nextOf}
 use Rattle.rib.specs.Entry.{cursorValues}
 use Rattle.rib.specs.declared.Cursor.{Cursor}

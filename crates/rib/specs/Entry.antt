@@ -8,8 +8,8 @@ use lib.ListN.{length}
 use lib.Dec.{leb, ltb, eqb}
 use Rattle.answer.specs.Refusal.{numberOf}
 use Rattle.octets.specs.Octets.{beAt}
-use Rattle.rib.specs.Layout.{carried, pathSize}
-use Rattle.rib.specs.Head.{declared, entriesAt, checkRib}
+use Rattle.rib_head.specs.Layout.{carried, pathSize}
+use Rattle.rib_head.specs.Head.{declared, entriesAt, checkRib}
 use Rattle.rib.specs.declared.Cursor.{Cursor}
 use Rattle.rib.specs.declared.EntryAnswer.{EntryAnswer}
 use Rattle.rib.specs.declared.EntryAnswer.the-variants as entry-answer

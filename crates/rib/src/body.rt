@@ -1,12 +1,14 @@
 // Reading a whole RIB body: its head, and how many of its entries are there.
 ghost use mathlib.Core.Path.{_≡_};
+ghost use Prim.Native.Nat.{_+_, _≤_};
+ghost use lib.ListN.{length};
 ghost use Rattle.answer.specs.Refusal.{numberOf};
-ghost use Rattle.rib.specs.Rib.{ribValues, noRib, ribOf};
+ghost use Rattle.rib_head.specs.Layout.{prefixSize};
+ghost use Rattle.rib.specs.Rib.{ribValues, noRib, prefixAt, ribOf};
 use crate::CursorAnswer;
 use crate::Rib;
 use crate::entries::first_entry;
 use crate::entries::pass_entries;
-use crate::prefix::prefix_of;
 use answer::Outcome;
 use answer::Refusal;
 
@@ -30,6 +32,18 @@ pub fn read_rib(body: &[u8], subtype: u16) -> Rib
             }
         }
     }
+}
+
+// The prefix of a readable head.
+fn prefix_of(body: &[u8], bits: u8) -> [u8; 16]
+    requires { ⌜ (bits ≤ 128) × (5 + prefixSize bits ≤ length (now body)) ⌝ }
+    ensures { λ r. ⌜ r ≡ prefixAt bits (now (body .entry)) ⌝ }
+{
+    let size = rib_head::prefix_size(bits);
+    let end = 5 + size;
+    let mut p = [0u8; 16];
+    octets::put_octets(&mut p, 0, &body[5..end]);
+    rib_head::clear_after(bits, p)
 }
 
 // A refusal, with 0 in every other field.

@@ -4,16 +4,13 @@ ghost use mathlib.Core.Bool.{cond};
 ghost use Prim.Native.Nat.{_-_};
 ghost use lib.Dec.{eqb};
 ghost use Rattle.octets.specs.Octets.{beAt, part};
-ghost use Rattle.rib.specs.Layout.{pathSize};
+ghost use Rattle.rib_head.specs.Layout.{pathSize};
 ghost use Rattle.rib.specs.Entry.{passed, entryHere, entryValues, entryOf, cursorValues, firstOf, afterOf, nextValues, nextOf};
 use crate::Cursor;
 use crate::CursorAnswer;
 use crate::Entry;
 use crate::EntryAnswer;
 use crate::NextAnswer;
-use crate::head::check_rib;
-use crate::head::layout_of;
-use crate::head::prefix_size;
 use answer::Outcome;
 use answer::Refusal;
 
@@ -35,7 +32,7 @@ pub fn entry_at(body: &[u8], subtype: u16, i: usize) -> EntryAnswer
                     left: i as u16,
                 },
             );
-            let l = layout_of(subtype);
+            let l = rib_head::layout_of(subtype);
             read_entry(body, l.path, c.at)
         }
     }
@@ -45,10 +42,10 @@ pub fn entry_at(body: &[u8], subtype: u16, i: usize) -> EntryAnswer
 pub fn first_entry(body: &[u8], subtype: u16) -> CursorAnswer
     ensures answer { λ r. ⌜ cursorValues r ≡ firstOf (now (body .entry)) subtype ⌝ }
 {
-    match check_rib(body, subtype) {
+    match rib_head::check_rib(body, subtype) {
         Outcome::Refused(r) => CursorAnswer::Refused(r),
         Outcome::Accepted => {
-            let size = prefix_size(octets::octet(body, 4));
+            let size = rib_head::prefix_size(octets::octet(body, 4));
             CursorAnswer::At(Cursor {
                 at: 7 + size,
                 left: octets::be16(body, 5 + size),
@@ -71,7 +68,7 @@ pub fn after_entries(body: &[u8], subtype: u16) -> CursorAnswer
 pub fn next_entry(body: &[u8], subtype: u16, c: Cursor) -> NextAnswer
     ensures answer { λ r. ⌜ nextValues r ≡ nextOf (now (body .entry)) subtype c ⌝ }
 {
-    let l = layout_of(subtype);
+    let l = rib_head::layout_of(subtype);
     if !l.carried {
         return NextAnswer::Refused(Refusal::OtherSubtype);
     }
@@ -114,7 +111,7 @@ pub fn attributes(body: &[u8], e: Entry) -> &[u8]
 pub(crate) fn pass_entries(body: &[u8], subtype: u16, c: Cursor) -> Cursor
     ensures { λ r. ⌜ r ≡ passed (pathSize subtype) (now (body .entry)) (c .at) (c .left) ⌝ }
 {
-    let l = layout_of(subtype);
+    let l = rib_head::layout_of(subtype);
     let mut at = c.at;
     let mut left = c.left;
     while 0 < left {

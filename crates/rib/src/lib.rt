@@ -1,9 +1,6 @@
 // RIB records of TABLE_DUMP_V2, read (RFC 6396, 4.3.2; RFC 8050, 4). Attributes stay octets of the body.
 mod body;
 mod entries;
-mod head;
-mod prefix;
-mod times;
 
 use answer::Outcome;
 use answer::Refusal;
@@ -13,17 +10,6 @@ pub use entries::attributes;
 pub use entries::entry_at;
 pub use entries::first_entry;
 pub use entries::next_entry;
-pub use head::check_rib;
-pub use head::layout_of;
-pub use prefix::clear_after;
-pub use times::age;
-
-// What a subtype decides: whether it is carried, the most prefix bits, how many octets a path number takes.
-pub struct Layout {
-    pub carried: bool,
-    pub most: u8,
-    pub path: usize,
-}
 
 pub struct Entry {
     pub peer: u16,

@@ -12,8 +12,8 @@ use Rattle.answer.specs.Writing.{refuse, atFront}
 use Rattle.answer.specs.declared.Refusal.{Refusal}
 use Rattle.octets.specs.Octets.{beAt, bytesOf, patch}
 use Rattle.octets.proofs.Stores.{patch-front}
-use Rattle.rib.specs.Layout.{carried, mostBits, pathSize, prefixSize}
-use Rattle.rib.specs.Head.{bitsOf, countAt, declared}
+use Rattle.rib_head.specs.Layout.{carried, mostBits, pathSize, prefixSize}
+use Rattle.rib_head.specs.Head.{bitsOf, countAt, declared}
 use Rattle.rib.specs.Entry.{cursorValues, afterOf}
 use Rattle.rib.specs.declared.Cursor.{Cursor}
 use Rattle.rib.specs.declared.CursorAnswer.{CursorAnswer}

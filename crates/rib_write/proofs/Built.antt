@@ -10,8 +10,8 @@ use lib.Dec.{ltb}
 use borrow.Author.Tests.{le-ltb, le-leb, eq-eqb, ltb-false}
 use Rattle.octets.specs.Octets.{bytesOf, patch}
 use Rattle.octets.proofs.Numbers.{length-bytes}
-use Rattle.rib.specs.Layout.{carried, mostBits, pathSize, prefixSize}
-use Rattle.rib.specs.Head.{bitsOf, declared, entriesAt, readable, checkRib}
+use Rattle.rib_head.specs.Layout.{carried, mostBits, pathSize, prefixSize}
+use Rattle.rib_head.specs.Head.{bitsOf, declared, entriesAt, readable, checkRib}
 use Rattle.rib.specs.Entry.{passed, afterOf}
 use Rattle.rib.proofs.Steps.{placed-met}
 use Rattle.rib_write.specs.Layout.{Given, headWith, givenOctets, entriesOctets}

@@ -10,13 +10,14 @@ use lib.Seq.{take-suc, take-all, getD-take}
 use borrow.Author.Tests.{leb-true}
 use Rattle.octets.specs.Octets.{beAt, part, Octets}
 use Rattle.octets.proofs.Numbers.{bytes-of-be}
-use Rattle.rib.specs.Layout.{prefixSize, pathSize}
-use Rattle.rib.specs.Prefix.{cleared, prefixAt}
-use Rattle.rib.specs.Head.{bitsOf, countAt, declared, entriesAt}
+use Rattle.rib_head.specs.Layout.{prefixSize, pathSize}
+use Rattle.rib_head.specs.Prefix.{cleared}
+use Rattle.rib.specs.Rib.{prefixAt}
+use Rattle.rib_head.specs.Head.{bitsOf, countAt, declared, entriesAt}
 use Rattle.rib.specs.Entry.{attributesAt, entryEnd, fits, passed}
-use Rattle.rib.proofs.Heads.{met-within, met-bits}
+use Rattle.rib_head.proofs.Heads.{met-within, met-bits}
 use Rattle.rib.proofs.Passing.{by-fit}
-use Rattle.rib.proofs.Prefixes.{cleared-same, getD-cleared, masked-masked}
+use Rattle.rib_head.proofs.Prefixes.{cleared-same, getD-cleared, masked-masked}
 use Rattle.rib_write.specs.Layout.{Given, headWith, entryOctets, givenOctets, entriesOctets}
 use Rattle.rib_write.specs.Run.{tidied}
 use Rattle.octets.proofs.Numbers.{be-lt}

@@ -13,13 +13,14 @@ use lib.Dec.{leb, ltb}
 use borrow.Author.Tests.{leb-true, ltb-false, le-ltb, le-leb, eq-eqb}
 use Rattle.answer.specs.Writing.{Writing, refuse, atFront}
 use Rattle.octets.specs.Octets.{beAt, part, Octets}
-use Rattle.rib.specs.Layout.{carried, mostBits, pathSize, prefixSize}
-use Rattle.rib.specs.Prefix.{cleared, prefixAt}
-use Rattle.rib.specs.Head.{bitsOf, countAt, declared, entriesAt, checkRib}
+use Rattle.rib_head.specs.Layout.{carried, mostBits, pathSize, prefixSize}
+use Rattle.rib_head.specs.Prefix.{cleared}
+use Rattle.rib.specs.Rib.{prefixAt}
+use Rattle.rib_head.specs.Head.{bitsOf, countAt, declared, entriesAt, checkRib}
 use Rattle.rib.specs.Entry.{attributesAt, entryEnd, entryHere, passed, readCount}
 use Rattle.rib.specs.Rib.{ribOf}
-use Rattle.rib.proofs.Prefixes.{length-cleared}
-use Rattle.rib.proofs.Heads.{met-carried, met-most}
+use Rattle.rib_head.proofs.Prefixes.{length-cleared}
+use Rattle.rib_head.proofs.Heads.{met-carried, met-most}
 use Rattle.rib.proofs.Bodies.{count-le, entry-met}
 use Rattle.rib.proofs.HandedOut.{fits-below}
 use Rattle.rib_write.specs.Layout.{Given, headOctets, entriesOctets}

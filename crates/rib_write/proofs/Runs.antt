@@ -10,11 +10,11 @@ use lib.Seq.{drop-drop, take-append-seam}
 use lib.Dec.{ltb, eqb, eqb·suc-zero}
 use borrow.Author.Tests.{le-ltb, ltb-false, eqb-true, eqb-false, eq-eqb, ne-eqb}
 use Rattle.answer.specs.Writing.{Writing, refuse}
-use Rattle.rib.specs.Layout.{pathSize, prefixSize}
-use Rattle.rib.specs.Head.{countAt, declared, entriesAt}
+use Rattle.rib_head.specs.Layout.{pathSize, prefixSize}
+use Rattle.rib_head.specs.Head.{countAt, declared, entriesAt}
 use Rattle.rib.specs.Entry.{passed}
 use Rattle.rib.specs.declared.Cursor.{Cursor}
-use Rattle.rib.proofs.Layouts.{path-size, path-size-le}
+use Rattle.rib_head.proofs.Layouts.{path-size, path-size-le}
 use Rattle.rib_write.specs.Layout.{Given, givenOctets, entriesOctets}
 use Rattle.rib_write.specs.Add.{unfit, addEntry, Pushing, unpushed}
 use Rattle.rib_write.specs.Run.{adds, pushes, lengthOnly}

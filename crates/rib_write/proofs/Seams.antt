@@ -10,11 +10,12 @@ use lib.Dec.{ltb}
 use borrow.Author.Tests.{le-leb, ltb-true, ltb-false}
 use Rattle.octets.specs.Octets.{beAt, bytesOf, part, Octets}
 use Rattle.octets.proofs.Numbers.{be-of-bytes, length-bytes}
-use Rattle.rib.specs.Layout.{prefixSize}
-use Rattle.rib.specs.Prefix.{masked, cleared, prefixAt}
-use Rattle.rib.specs.Head.{bitsOf, countAt, declared, entriesAt}
+use Rattle.rib_head.specs.Layout.{prefixSize}
+use Rattle.rib_head.specs.Prefix.{masked, cleared}
+use Rattle.rib.specs.Rib.{prefixAt}
+use Rattle.rib_head.specs.Head.{bitsOf, countAt, declared, entriesAt}
 use Rattle.rib.specs.Entry.{attributesAt, entryEnd, fits, passed}
-use Rattle.rib.proofs.Prefixes.{length-cleared, cleared-same, getD-cleared, masked-masked, masked-after}
+use Rattle.rib_head.proofs.Prefixes.{length-cleared, cleared-same, getD-cleared, masked-masked, masked-after}
 use Rattle.rib_write.specs.Layout.{Given, headWith, entryOctets, givenOctets, entriesOctets}
 use Rattle.rib_write.proofs.Sizes.{length-head-with, length-entry}
 

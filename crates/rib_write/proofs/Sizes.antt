@@ -5,9 +5,9 @@ use mathlib.Core.List.{List}
 use native.Mathlib.Omega.{arith}
 use lib.ListN.{length, length-append}
 use Rattle.octets.proofs.Numbers.{length-bytes}
-use Rattle.rib.specs.Layout.{prefixSize}
-use Rattle.rib.specs.Prefix.{cleared}
-use Rattle.rib.proofs.Prefixes.{length-cleared}
+use Rattle.rib_head.specs.Layout.{prefixSize}
+use Rattle.rib_head.specs.Prefix.{cleared}
+use Rattle.rib_head.proofs.Prefixes.{length-cleared}
 use Rattle.rib_write.specs.Layout.{headWith, headOctets, entryOctets}
 use Rattle.rib_write.specs.declared.NewEntry.{NewEntry}
 

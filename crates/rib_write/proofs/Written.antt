@@ -9,9 +9,9 @@ use lib.Seq.{take-all, take-append-le, length-take-le}
 use Rattle.octets.specs.Octets.{bytesOf, patch}
 use Rattle.octets.proofs.Numbers.{length-bytes}
 use Rattle.octets.proofs.Stores.{stores, patch-part}
-use Rattle.rib.specs.Layout.{pathSize, prefixSize}
-use Rattle.rib.specs.Prefix.{cleared}
-use Rattle.rib.proofs.Prefixes.{length-cleared}
+use Rattle.rib_head.specs.Layout.{pathSize, prefixSize}
+use Rattle.rib_head.specs.Prefix.{cleared}
+use Rattle.rib_head.proofs.Prefixes.{length-cleared}
 use Rattle.rib_write.specs.Layout.{headWith, headOctets, entryOctets}
 use Rattle.rib_write.specs.declared.NewEntry.{NewEntry}
 

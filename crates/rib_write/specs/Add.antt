@@ -9,8 +9,8 @@ use lib.Dec.{leb, ltb, eqb}
 use Rattle.answer.specs.Refusal.{numberOf}
 use Rattle.answer.specs.Writing.{Writing, refuse}
 use Rattle.octets.specs.Octets.{bytesOf, patch}
-use Rattle.rib.specs.Layout.{carried, pathSize}
-use Rattle.rib.specs.Head.{countAt, declared}
+use Rattle.rib_head.specs.Layout.{carried, pathSize}
+use Rattle.rib_head.specs.Head.{countAt, declared}
 use Rattle.rib.specs.Entry.{afterOf}
 use Rattle.rib_write.specs.Layout.{entryOctets}
 use Rattle.rib_write.specs.declared.NewEntry.{NewEntry}

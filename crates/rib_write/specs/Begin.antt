@@ -4,7 +4,7 @@ use mathlib.Core.List.{List}
 use mathlib.Core.Bool.{cond}
 use lib.Dec.{ltb}
 use Rattle.answer.specs.Writing.{Writing, refuse, atFront}
-use Rattle.rib.specs.Layout.{carried, mostBits}
+use Rattle.rib_head.specs.Layout.{carried, mostBits}
 use Rattle.rib_write.specs.Layout.{headOctets}
 
 -- a body of subtype t with no entry at the front of the output s

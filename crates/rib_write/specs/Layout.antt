@@ -4,8 +4,8 @@ use Prim.Native.Nat.{ℕ}
 use mathlib.Core.List.{List, [], _∷_, _++_}
 use lib.ListN.{length}
 use Rattle.octets.specs.Octets.{bytesOf}
-use Rattle.rib.specs.Layout.{prefixSize}
-use Rattle.rib.specs.Prefix.{cleared}
+use Rattle.rib_head.specs.Layout.{prefixSize}
+use Rattle.rib_head.specs.Prefix.{cleared}
 use Rattle.rib_write.specs.declared.NewEntry.{NewEntry}
 
 -- a head with these prefix octets: sequence, prefix bits, prefix octets, entry count

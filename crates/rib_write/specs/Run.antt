@@ -7,9 +7,9 @@ use lib.ListN.{take, drop}
 use lib.Dec.{eqb}
 use Rattle.answer.specs.Writing.{Writing}
 use Rattle.octets.specs.Octets.{part}
-use Rattle.rib.specs.Layout.{prefixSize}
-use Rattle.rib.specs.Prefix.{cleared}
-use Rattle.rib.specs.Head.{bitsOf, countAt}
+use Rattle.rib_head.specs.Layout.{prefixSize}
+use Rattle.rib_head.specs.Prefix.{cleared}
+use Rattle.rib_head.specs.Head.{bitsOf, countAt}
 use Rattle.rib.specs.Entry.{entryOf}
 use Rattle.rib_write.specs.Layout.{Given}
 use Rattle.rib_write.specs.Add.{Opening, Pushing, addEntry, pushEntry}

@@ -12,7 +12,7 @@ use answer::Written;
 pub fn begin_rib(out: &mut [u8], subtype: u16, sequence: u32, bits: u8, prefix: [u8; 16]) -> Written
     ensures answer { λ r. ⌜ wrote r (now (out .exit)) ≡ beginRib (now (out .entry)) subtype sequence bits prefix ⌝ }
 {
-    let l = rib::layout_of(subtype);
+    let l = rib_head::layout_of(subtype);
     if !l.carried {
         return Written::Refused(Refusal::OtherSubtype);
     }
@@ -33,7 +33,7 @@ fn put_head(out: &mut [u8], sequence: u32, bits: u8, prefix: [u8; 16])
     ensures { λ _. ⌜ now (out .exit) ≡ patch (now (out .entry)) 0 (headOctets sequence bits prefix 0) ⌝ }
 {
     let size = (bits as usize + 7) / 8;
-    let p = rib::clear_after(bits, prefix);
+    let p = rib_head::clear_after(bits, prefix);
     octets::put_be32(out, 0, sequence);
     octets::put_octet(out, 4, bits);
     octets::put_octets(out, 5, &p[..size]);

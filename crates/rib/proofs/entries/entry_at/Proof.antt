@@ -1,8 +1,8 @@
 use mathlib.Core.Path.{_∙_}
 use borrow.Author.Needs.{needs}
 use Rattle.rib.proofs.Passing.{here-sized}
-use Rattle.rib.proofs.Layouts.{path-sized}
-use Rattle.rib.proofs.Heads.{path-of}
+use Rattle.rib_head.proofs.Layouts.{path-sized}
+use Rattle.rib_head.proofs.Heads.{path-of}
 use Rattle.rib.proofs.Bodies.{entry-unmet, entry-beyond, entry-after}
 use Rattle.rib.proofs.entries.entry_at.Statement.{statement}
 use Rattle.rib.proofs.entries.entry_at.Tie as tie

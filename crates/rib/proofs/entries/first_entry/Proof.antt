@@ -1,6 +1,6 @@
 use native.Mathlib.Omega.{arith}
 use borrow.Author.Needs.{needs}
-use Rattle.rib.specs.Layout.{prefixSize}
+use Rattle.rib_head.specs.Layout.{prefixSize}
 use Rattle.rib.proofs.Steps.{said-met, first-unmet, first-met}
 use Rattle.rib.proofs.entries.first_entry.Statement.{statement}
 use Rattle.rib.proofs.entries.first_entry.Tie as tie

@@ -2,8 +2,8 @@ use mathlib.Core.Path.{_∙_}
 use borrow.Author.Needs.{needs}
 use Rattle.rib.proofs.Steps.{next-other, next-none, next-short, next-handed}
 use Rattle.rib.proofs.Passing.{here-unfit, here-sized}
-use Rattle.rib.proofs.Layouts.{path-sized}
-use Rattle.rib.proofs.Heads.{carried-not, carried-so, path-of}
+use Rattle.rib_head.proofs.Layouts.{path-sized}
+use Rattle.rib_head.proofs.Heads.{carried-not, carried-so, path-of}
 use Rattle.rib.proofs.entries.next_entry.Statement.{statement}
 use Rattle.rib.proofs.entries.next_entry.Tie as tie
 

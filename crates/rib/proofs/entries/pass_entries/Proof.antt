@@ -2,8 +2,8 @@ use mathlib.Core.Path.{_≡_, refl, sym, _∙_}
 use native.Mathlib.Omega.{arith}
 use borrow.Author.Needs.{needs}
 use Rattle.rib.specs.Entry.{passed}
-use Rattle.rib.proofs.Heads.{path-of}
-use Rattle.rib.proofs.Layouts.{path-sized}
+use Rattle.rib_head.proofs.Heads.{path-of}
+use Rattle.rib_head.proofs.Layouts.{path-sized}
 use Rattle.rib.proofs.Passing.{passed-read, passed-sized, passed-unread, passed-none}
 use Rattle.rib.proofs.entries.pass_entries.Statement.{statement}
 use Rattle.rib.proofs.entries.pass_entries.Tie as tie

@@ -1,7 +1,7 @@
 use mathlib.Core.Path.{sym, _∙_, ap}
 use borrow.Author.Needs.{needs}
 use Rattle.octets.specs.Octets.{beAt}
-use Rattle.rib.proofs.Layouts.{sized-four}
+use Rattle.rib_head.proofs.Layouts.{sized-four}
 use Rattle.rib.proofs.entries.path_number.Statement.{statement}
 use Rattle.rib.proofs.entries.path_number.Tie as tie
 

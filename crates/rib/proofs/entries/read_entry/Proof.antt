@@ -2,7 +2,7 @@ use mathlib.Core.Path.{refl}
 use native.Mathlib.Omega.{arith}
 use borrow.Author.Needs.{needs}
 use Rattle.rib.proofs.Passing.{here-past, here-short, here-cut, here-read}
-use Rattle.rib.proofs.Layouts.{sized-le}
+use Rattle.rib_head.proofs.Layouts.{sized-le}
 use Rattle.rib.proofs.entries.read_entry.Statement.{statement}
 use Rattle.rib.proofs.entries.read_entry.Tie as tie
 

@@ -1,7 +1,7 @@
 use native.Mathlib.Omega.{arith}
 use borrow.Author.Needs.{needs}
-use Rattle.rib.proofs.Layouts.{most-bits-le}
-use Rattle.rib.proofs.Heads.{carried-not, carried-so, most-of}
+use Rattle.rib_head.proofs.Layouts.{most-bits-le}
+use Rattle.rib_head.proofs.Heads.{carried-not, carried-so, most-of}
 use Rattle.rib_write.proofs.Answers.{begin-other, begin-large, begin-full, begin-done}
 use Rattle.rib_write.proofs.begin.begin_rib.Statement.{statement}
 use Rattle.rib_write.proofs.begin.begin_rib.Tie as tie
