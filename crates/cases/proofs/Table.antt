@@ -9,7 +9,7 @@ use Rattle.peer.specs.Peer.{wide, addressSize, asSize, peerSize}
 use Rattle.table.specs.Table.{endAt, nameLength, peerCount, firstPeer, lastEnd, checkPeers}
 use Rattle.rib_head.specs.Layout.{ipv4, ipv6, pathed, carried, mostBits, pathSize, prefixSize}
 use Rattle.rib_head.specs.Head.{bitsOf, countAt, declared, entriesAt, readable, checkRib}
-use Rattle.rib.specs.Entry.{attributesAt, entryEnd, fits, passed, readCount}
+use Rattle.rib_entries.specs.Entry.{attributesAt, entryEnd, fits, passed, readCount}
 use Rattle.rib.specs.Rib.{ribOf}
 use Rattle.checks.specs.Message.{messageBounds, message}
 use Rattle.checks.specs.Bgp4mp.{asSizes, asSize as bgpAsSize, addressSize as bgpAddressSize, stateChange, tail, envelope, bgp4mp}

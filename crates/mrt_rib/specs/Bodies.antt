@@ -5,7 +5,7 @@ use mathlib.Core.Bool.{_&&_, cond}
 use lib.ListN.{length}
 use lib.Dec.{leb, eqb}
 use Rattle.octets.specs.Octets.{patch}
-use Rattle.rib.specs.Entry.{Entered, Placed, Stepped}
+use Rattle.rib_entries.specs.Entry.{Entered, Placed, Stepped}
 use Rattle.rib.specs.Rib.{Reading}
 use Rattle.lent.specs.Export.{exported, mark}
 

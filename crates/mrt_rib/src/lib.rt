@@ -1,17 +1,17 @@
 // RIB bodies across the boundary, read.
 ghost use mathlib.Core.Path.{_≡_};
 ghost use Rattle.rib_head.specs.Age.{ageOf};
-ghost use Rattle.rib.specs.Entry.{entryOf, firstOf, nextOf};
+ghost use Rattle.rib_entries.specs.Entry.{entryOf, firstOf, nextOf};
 ghost use Rattle.rib.specs.Rib.{ribOf};
 ghost use Rattle.mrt_rib.specs.Bodies.{entryOut, placedOut, stepOut, ribOut};
 use answer::Outcome;
 use lent::hand_out;
 use lent::put_values;
 use lent::refusal;
-use rib::Cursor;
-use rib::CursorAnswer;
-use rib::EntryAnswer;
-use rib::NextAnswer;
+use rib_entries::Cursor;
+use rib_entries::CursorAnswer;
+use rib_entries::EntryAnswer;
+use rib_entries::NextAnswer;
 
 // The head of a RIB body, and its prefix in 16 octets.
 #[no_mangle]
@@ -49,7 +49,7 @@ pub extern "C" fn mrt_read_rib(body: &[u8], subtype: u16, out: &mut [u64], prefi
 pub extern "C" fn mrt_rib_entry(body: &[u8], subtype: u16, i: usize, out: &mut [u64]) -> u32
     ensures answer { λ r. ⌜ (now (out .exit), r) ≡ entryOut (now (out .entry)) (entryOf (now (body .entry)) subtype i) ⌝ }
 {
-    match rib::entry_at(body, subtype, i) {
+    match rib_entries::entry_at(body, subtype, i) {
         EntryAnswer::Refused(r) => refusal(r),
         EntryAnswer::Read(e) => {
             let v = [
@@ -69,7 +69,7 @@ pub extern "C" fn mrt_rib_entry(body: &[u8], subtype: u16, i: usize, out: &mut [
 pub extern "C" fn mrt_rib_first(body: &[u8], subtype: u16, out: &mut [u64]) -> u32
     ensures answer { λ r. ⌜ (now (out .exit), r) ≡ placedOut (now (out .entry)) (firstOf (now (body .entry)) subtype) ⌝ }
 {
-    match rib::first_entry(body, subtype) {
+    match rib_entries::first_entry(body, subtype) {
         CursorAnswer::Refused(r) => refusal(r),
         CursorAnswer::At(c) => {
             let v = [c.at as u64, c.left as u64];
@@ -89,7 +89,7 @@ pub extern "C" fn mrt_rib_next(
 ) -> u32
     ensures answer { λ r. ⌜ (now (out .exit), r) ≡ stepOut (now (out .entry)) (nextOf (now (body .entry)) subtype (record { at = at; left = left })) ⌝ }
 {
-    match rib::next_entry(body, subtype, Cursor { at, left }) {
+    match rib_entries::next_entry(body, subtype, Cursor { at, left }) {
         NextAnswer::Refused(r) => refusal(r),
         NextAnswer::End => {
             let v = [0u64; 8];

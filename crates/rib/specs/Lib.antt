@@ -1,3 +1,2 @@
--- Entry: entries by number and by cursor. Rib: a whole body.
-pub mod Entry
+-- Rib: a whole body.
 pub mod Rib

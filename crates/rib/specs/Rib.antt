@@ -10,7 +10,7 @@ use Rattle.octets.specs.Octets.{beAt, part}
 use Rattle.rib_head.specs.Layout.{prefixSize}
 use Rattle.rib_head.specs.Prefix.{cleared}
 use Rattle.rib_head.specs.Head.{bitsOf, declared, entriesAt, checkRib}
-use Rattle.rib.specs.Entry.{readCount}
+use Rattle.rib_entries.specs.Entry.{readCount}
 use Rattle.rib.specs.declared.Rib.{Rib}
 
 -- an answer in numbers: the refusal's number or 0, and the values of the fields

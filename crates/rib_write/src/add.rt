@@ -13,7 +13,7 @@ use crate::BuilderAnswer;
 use crate::NewEntry;
 use answer::Refusal;
 use answer::Written;
-use rib::CursorAnswer;
+use rib_entries::CursorAnswer;
 
 // One more entry in a body that fills the first len octets of the lent output.
 pub fn add_entry(
@@ -41,7 +41,7 @@ pub fn add_entry(
 pub fn open_rib(body: &[u8], subtype: u16) -> BuilderAnswer
     ensures answer { λ r. ⌜ openValues r ≡ openOf (now (body .entry)) subtype ⌝ }
 {
-    match rib::after_entries(body, subtype) {
+    match rib_entries::after_entries(body, subtype) {
         CursorAnswer::Refused(r) => BuilderAnswer::Refused(r),
         CursorAnswer::At(c) => {
             if c.left != 0 {

@@ -1,6 +1,6 @@
 use mathlib.Core.Path.{refl}
-use Rattle.rib.specs.Entry.{Entered, entryValues as answered}
-use Rattle.rib.specs.declared.EntryAnswer.the-variants.{Refused}
+use Rattle.rib_entries.specs.Entry.{Entered, entryValues as answered}
+use Rattle.rib_entries.specs.declared.EntryAnswer.the-variants.{Refused}
 use Rattle.mrt_rib.specs.Bodies.{entryValues}
 use Rattle.lent.proofs.Handing.{refuses, hands}
 use borrow.Author.Needs.{needs}

@@ -1,6 +1,6 @@
 use mathlib.Core.Path.{refl}
-use Rattle.rib.specs.Entry.{Placed, cursorValues}
-use Rattle.rib.specs.declared.CursorAnswer.the-variants.{Refused}
+use Rattle.rib_entries.specs.Entry.{Placed, cursorValues}
+use Rattle.rib_entries.specs.declared.CursorAnswer.the-variants.{Refused}
 use Rattle.mrt_rib.specs.Bodies.{placedValues}
 use Rattle.lent.proofs.Handing.{refuses, hands}
 use borrow.Author.Needs.{needs}

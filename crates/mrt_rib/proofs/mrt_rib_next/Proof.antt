@@ -1,6 +1,6 @@
 use mathlib.Core.Path.{refl}
-use Rattle.rib.specs.Entry.{Stepped, nextValues}
-use Rattle.rib.specs.declared.NextAnswer.the-variants.{Refused}
+use Rattle.rib_entries.specs.Entry.{Stepped, nextValues}
+use Rattle.rib_entries.specs.declared.NextAnswer.the-variants.{Refused}
 use Rattle.mrt_rib.specs.Bodies.{stepValues}
 use Rattle.lent.proofs.Handing.{refuses, hands}
 use borrow.Author.Needs.{needs}

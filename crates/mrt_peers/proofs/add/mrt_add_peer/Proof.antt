@@ -68,7 +68,7 @@ use Rattle.mrt_peers.proofs.add.added_as as as′
 use Rattle.mrt_peers.proofs.add.added_as.Symbol as as-def
 use Rattle.mrt_peers.proofs.add.added_as.Symbol.{name as #added-as}
 use Rattle.mrt_peers.proofs.add.added_as.Met as as-thm
-use Rattle.mrt_peers.proofs.Calls.{freely, asks, asks-fact}
+use Rattle.peer_slots.proofs.Calls.{freely, asks, asks-fact}
 use Rattle.mrt_peers.proofs.add.mrt_add_peer.Key.{name as #mrt-add-peer}
 use Rattle.mrt_peers.proofs.add.mrt_add_peer as mrt′
 use Rattle.mrt_peers.proofs.add.mrt_add_peer.Statement as stated

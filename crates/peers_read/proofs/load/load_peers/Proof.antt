@@ -1,4 +1,4 @@
--- `peers::load_peers` meets its contract: a walk of its MIR, by hand. `plan_load` answers first; a refusal has no peers, so the
+-- `peers_read::load_peers` meets its contract: a walk of its MIR, by hand. `plan_load` answers first; a refusal has no peers, so the
 -- loop then has no turn. The slots' borrow is opened before the loop and closed after it; a turn stores one slot. Assumes nothing.
 use mathlib.Core.Path.{_≡_, refl, sym, _∙_, ap, subst}
 use Prim.Native.Nat.{ℕ, _+_, _-_, _*_, _<_, _≤_, _^_}

@@ -1,4 +1,4 @@
--- `peers::measure` meets its contract: a walk of its MIR, by hand, with a loop that reads. The slots are looked into once, before
+-- `peers_write::measure` meets its contract: a walk of its MIR, by hand, with a loop that reads. The slots are looked into once, before
 -- the loop, and shut after it; a turn copies one slot out, puts it back as it was, and asks `less_peer`. Assumes nothing.
 use mathlib.Core.Path.{_≡_, refl, sym, _∙_, ap, subst}
 use Prim.Native.Nat.{ℕ, _+_, _-_, _*_, _<_, _≤_, _^_}

@@ -1,4 +1,4 @@
--- `peers::write_peers` meets its contract: a walk of its MIR, by hand. The slots are passed on to `measure`; the output is lent to
+-- `peers_write::write_peers` meets its contract: a walk of its MIR, by hand. The slots are passed on to `measure`; the output is lent to
 -- `write_head` for a lifetime of that call, and so to `put_peer` in each turn of the loop. A refusal has no peers to write, so the
 -- loop then has no turn. The slots are looked into once, before the loop, and shut after it. Assumes nothing.
 use mathlib.Core.Path.{_≡_, refl, sym, _∙_, ap, subst}
