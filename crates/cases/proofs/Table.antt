@@ -16,7 +16,7 @@ use Rattle.checks.specs.Bgp4mp.{asSizes, asSize as bgpAsSize, addressSize as bg
 use Rattle.walk.specs.Step.{whenFit, whenOf, whenWhole, aligned, rowFrom, rowOn, row, scan, unfound, leave, scanned, resume, ownEnd, judged, going, step}
 use Rattle.judge.specs.Body.{tableDump, check}
 use Rattle.judge.specs.Record.{verdict, judge, judgeAt, judgementAt}
-use Rattle.judge.specs.Candidate.{family, evidence, plausible, standing, headed, candidate, candidateAt}
+use Rattle.candidate.specs.Candidate.{family, evidence, plausible, standing, headed, candidate, candidateAt}
 use Rattle.cases.specs.Cases.{Hold, rows}
 
 pub table : Hold rows

@@ -16,7 +16,7 @@ use Rattle.checks.specs.Bgp4mp.{bgp4mp}
 use Rattle.walk.specs.Judged.{Candidate, stands, fails}
 use Rattle.walk.specs.Step.{Answer, handed, gap, end, refused, Stepped, freshWalk, step}
 use Rattle.judge.specs.Record.{Judging, judgementAt, judgeAt}
-use Rattle.judge.specs.Candidate.{candidateAt}
+use Rattle.candidate.specs.Candidate.{candidateAt}
 
 pub record Row : Type 0 where
   pub case : String

@@ -6,7 +6,7 @@ ghost use Rattle.answer.specs.Refusal.{numberOf};
 ghost use Rattle.rules.specs.Ask.{over};
 ghost use Rattle.walk.specs.Step.{asked as askedOf, unfound as unfoundRule, scanned, ownEnd, moved, stopped, step as stepRule};
 ghost use Rattle.judge.specs.Record.{judgeAt};
-ghost use Rattle.judge.specs.Candidate.{candidateAt};
+ghost use Rattle.candidate.specs.Candidate.{candidateAt};
 ghost use Rattle.recover.specs.Answers.{said, stepped};
 use crate::Stepped;
 use crate::Tried;

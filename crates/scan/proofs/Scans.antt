@@ -11,8 +11,8 @@ use Rattle.rules.specs.Ask.{over}
 use Rattle.walk.specs.Step.{nowhere, scan}
 use Rattle.walk.specs.Judged.{fails}
 use Rattle.walk.proofs.Turns.{Left, scan-over, scan-past, scan-turned, scan-looks, row-fails}
-use Rattle.judge.specs.Candidate.{candidateAt}
-use Rattle.judge.proofs.Candidates.{candidate-near}
+use Rattle.candidate.specs.Candidate.{candidateAt}
+use Rattle.candidate.proofs.Candidates.{candidate-near}
 
 -- d distances are turned down, and the next one is beyond the window or has no room for a header
 pub scan-reached : (s : List ℕ) (more p window d : ℕ) → d ≤ window → min window (length s - p - 12) ≤ d

@@ -6,10 +6,10 @@ ghost use lib.ListN.{length};
 ghost use Rattle.rules.specs.Ask.{over};
 ghost use Rattle.walk.specs.Step.{scan as scanRule};
 ghost use Rattle.walk.specs.Judged.{fails};
-ghost use Rattle.judge.specs.Candidate.{candidateAt};
+ghost use Rattle.candidate.specs.Candidate.{candidateAt};
 ghost use Rattle.scan.specs.Sight.{sighted};
 use crate::Found;
-use judge::CandidateAnswer;
+use candidate::CandidateAnswer;
 
 // The first distance from p, up to the window, where a candidate stands with `more` of its family straight after it.
 pub fn scan(s: &[u8], p: usize, window: usize, more: u8) -> Found
@@ -28,7 +28,7 @@ pub fn scan(s: &[u8], p: usize, window: usize, more: u8) -> Found
             family,
             evidence,
             end,
-        } = judge::candidate_at(s, offset)
+        } = candidate::candidate_at(s, offset)
         else {
             continue 'distance;
         };
@@ -39,7 +39,7 @@ pub fn scan(s: &[u8], p: usize, window: usize, more: u8) -> Found
                 family: other,
                 evidence: _,
                 end: after,
-            } = judge::candidate_at(s, at)
+            } = candidate::candidate_at(s, at)
             else {
                 continue 'distance;
             };

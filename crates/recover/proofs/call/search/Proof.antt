@@ -1,6 +1,6 @@
 use Rattle.recover.proofs.Reading.{asked-more, asked-found}
 use Rattle.walk.proofs.Turns.{scanned-nowhere}
-use Rattle.judge.specs.Candidate.{candidateAt}
+use Rattle.candidate.specs.Candidate.{candidateAt}
 use Rattle.judge.specs.Record.{judgeAt}
 use mathlib.Core.Path.{sym, _∙_, ap}
 use Rattle.scan.specs.Sight.{sighted}

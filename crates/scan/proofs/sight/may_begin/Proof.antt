@@ -1,7 +1,7 @@
 use Prim.Native.Nat.{ℕ}
 use mathlib.Core.Path.{_≡_}
 use native.Mathlib.Omega.{arith}
-use Rattle.judge.proofs.Candidates.{candidate-high, candidate-huge, candidate-large, candidate-low}
+use Rattle.candidate.proofs.Candidates.{candidate-high, candidate-huge, candidate-large, candidate-low}
 use borrow.Author.Needs.{needs}
 use Rattle.scan.proofs.sight.may_begin.Statement.{statement}
 use Rattle.scan.proofs.sight.may_begin.Tie as tie

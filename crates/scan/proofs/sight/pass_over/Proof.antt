@@ -3,7 +3,7 @@ use mathlib.Core.Path.{_≡_}
 use native.Mathlib.Omega.{arith}
 use Rattle.rules.specs.Ask.{over}
 use Rattle.walk.specs.Judged.{fails}
-use Rattle.judge.specs.Candidate.{candidateAt}
+use Rattle.candidate.specs.Candidate.{candidateAt}
 use Rattle.scan.proofs.Scans.{passed-none, passed-one}
 use borrow.Author.Needs.{needs}
 use Rattle.scan.proofs.sight.pass_over.Statement.{statement}

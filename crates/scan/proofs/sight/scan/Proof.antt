@@ -6,7 +6,7 @@ use borrow.Author.Needs.{needs}
 use Rattle.walk.specs.Step.{row, rowFrom}
 use Rattle.rules.specs.Ask.{over}
 use Rattle.scan.proofs.Scans.{scan-reached, left-over}
-use Rattle.judge.specs.Candidate.{candidateAt, candidacy}
+use Rattle.candidate.specs.Candidate.{candidateAt, candidacy}
 use mathlib.Core.Path.{_≡_, sym, _∙_, ap, refl}
 use Rattle.walk.proofs.Turns.{Left, scan-starts, scan-looks, scan-turned, scan-left, row-fails, row-first, row-whole, row-breaks, row-parts, row-goes}
 use Rattle.scan.proofs.sight.scan.Statement.{statement}

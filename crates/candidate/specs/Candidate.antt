@@ -10,9 +10,9 @@ use Rattle.header.specs.Frame.{framed}
 use Rattle.checks.specs.Legacy.{legacy}
 use Rattle.checks.specs.Bgp4mp.{asSize, stateChange}
 use Rattle.walk.specs.Judged.{Judged, fit, off, cut, Candidate, stands, fails}
 use Rattle.judge.specs.Record.{verdict}
-use Rattle.judge.specs.declared.CandidateAnswer.{CandidateAnswer}
-use Rattle.judge.specs.declared.CandidateAnswer.the-variants.{Stands, Fails}
+use Rattle.candidate.specs.declared.CandidateAnswer.{CandidateAnswer}
+use Rattle.candidate.specs.declared.CandidateAnswer.the-variants.{Stands, Fails}
 
 -- the families: 5 is one, 16 with 17 the other; 0 where a type is of none
 unfoldable pub family : ℕ → ℕ

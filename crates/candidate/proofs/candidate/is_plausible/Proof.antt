@@ -2,10 +2,10 @@ use borrow.Author.Tests.{ne-eqb}
 use Rattle.answer.proofs.Refusals.{number-not-zero}
 use Rattle.answer.specs.Refusal.{outcomeNumber}
 use mathlib.Core.Path.{sym, _∙_, ap}
-use Rattle.judge.proofs.Candidates.{plausible-family, plausible-long, plausible-late, plausible-message, plausible-legacy}
+use Rattle.candidate.proofs.Candidates.{plausible-family, plausible-long, plausible-late, plausible-message, plausible-legacy}
 use borrow.Author.Needs.{needs}
-use Rattle.judge.proofs.candidate.is_plausible.Statement.{statement}
-use Rattle.judge.proofs.candidate.is_plausible.Tie as tie
+use Rattle.candidate.proofs.candidate.is_plausible.Statement.{statement}
+use Rattle.candidate.proofs.candidate.is_plausible.Tie as tie
 
 family-of-requires : tie.Need-family-of-requires
 family-of-requires c κs = search needs

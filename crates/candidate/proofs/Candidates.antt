@@ -20,15 +20,15 @@ use Rattle.checks.specs.Legacy.{legacy}
 use Rattle.checks.specs.Bgp4mp.{asSize, stateChange}
 use Rattle.walk.specs.Judged.{Judged, fit, off, cut, Candidate, stands, fails}
 use Rattle.walk.proofs.Sound.{Sound}
 use Rattle.judge.specs.Body.{check}
 use Rattle.judge.specs.Record.{verdict, judge, judgeAt, judged}
-use Rattle.judge.specs.Candidate.{family, evidence, plausible, standing, takenUp, headed, candidate, candidateAt}
+use Rattle.candidate.specs.Candidate.{family, evidence, plausible, standing, takenUp, headed, candidate, candidateAt}
 use Rattle.answer.specs.declared.Refusal.{Refusal}
 use Rattle.header.specs.declared.CommonHeader.{CommonHeader}
 use Rattle.header.specs.declared.WireLength.{WireLength}
 use Rattle.judge.specs.declared.Verdict.{Verdict}
 use Rattle.judge.specs.declared.Verdict.the-variants.{Fit, Off, Cut}
 use Rattle.judge.proofs.Soundness.{judged-number, judge-left, inside}
 
 pub family-rest : (k : ℕ) → (k ≡ 5 → ⊥) → (k ≡ 16 → ⊥) → (k ≡ 17 → ⊥) → 0 ≡ family k
 unfolding family

@@ -1,8 +1,8 @@
 use mathlib.Core.Path.{sym, ap}
-use Rattle.judge.specs.Candidate.{family}
-use Rattle.judge.proofs.Candidates.{family-rest}
-use Rattle.judge.proofs.candidate.family_of.Statement.{statement}
-use Rattle.judge.proofs.candidate.family_of.Tie as tie
+use Rattle.candidate.specs.Candidate.{family}
+use Rattle.candidate.proofs.Candidates.{family-rest}
+use Rattle.candidate.proofs.candidate.family_of.Statement.{statement}
+use Rattle.candidate.proofs.candidate.family_of.Tie as tie
 
 returns : tie.Need-returns
 unfolding family

@@ -1,9 +1,9 @@
 use mathlib.Core.Path.{sym, _∙_}
 use borrow.Author.Tests.{not-true, not-false}
-use Rattle.judge.proofs.Candidates.{taken-cut, taken-off, taken-implausible, taken-fit}
+use Rattle.candidate.proofs.Candidates.{taken-cut, taken-off, taken-implausible, taken-fit}
 use borrow.Author.Needs.{needs}
-use Rattle.judge.proofs.candidate.taken_up.Statement.{statement}
-use Rattle.judge.proofs.candidate.taken_up.Tie as tie
+use Rattle.candidate.proofs.candidate.taken_up.Statement.{statement}
+use Rattle.candidate.proofs.candidate.taken_up.Tie as tie
 
 enum-told : tie.Need-enum-told
 enum-told c = search needs

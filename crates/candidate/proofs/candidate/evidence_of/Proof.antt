@@ -1,8 +1,8 @@
 use mathlib.Core.Path.{sym, _∙_}
-use Rattle.judge.proofs.Candidates.{evidence-legacy, evidence-states, evidence-marker}
+use Rattle.candidate.proofs.Candidates.{evidence-legacy, evidence-states, evidence-marker}
 use borrow.Author.Needs.{needs}
-use Rattle.judge.proofs.candidate.evidence_of.Statement.{statement}
-use Rattle.judge.proofs.candidate.evidence_of.Tie as tie
+use Rattle.candidate.proofs.candidate.evidence_of.Statement.{statement}
+use Rattle.candidate.proofs.candidate.evidence_of.Tie as tie
 
 returns : tie.Need-returns
 returns c = evidence-legacy _ _ (c .if1 .taken)

@@ -1,13 +1,12 @@
 // The test that a scan puts the record at an offset to.
 ghost use mathlib.Core.Path.{_≡_};
 ghost use Rattle.rules.specs.Ask.{over};
 ghost use Rattle.judge.specs.Record.{judged};
-ghost use Rattle.judge.specs.Candidate.{candidacy, candidateAt, family, evidence, plausible, takenUp};
+ghost use Rattle.candidate.specs.Candidate.{candidacy, candidateAt, family, evidence, plausible, takenUp};
 use crate::CandidateAnswer;
-use crate::Verdict;
-use crate::record::judge_at;
 use answer::Outcome;
 use header::CommonHeader;
+use judge::Verdict;
 
 pub fn candidate_at(s: &[u8], at: usize) -> CandidateAnswer
     ensures answer { λ r. ⌜ candidacy r ≡ over (now (s .entry)) (candidateAt at) ⌝ }
@@ -27,7 +26,7 @@ pub fn candidate_at(s: &[u8], at: usize) -> CandidateAnswer
     if 65603 < octets::be32(s, at + 8) {
         return CandidateAnswer::Fails;
     }
-    taken_up(judge_at(s, at))
+    taken_up(judge::judge_at(s, at))
 }
 
 // A record that passes and whose header allows it, as a candidate.

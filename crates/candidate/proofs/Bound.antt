@@ -10,8 +10,8 @@ use borrow.Author.Tests.{eqb-true}
 use Rattle.checks.specs.Legacy.{legacy}
 use Rattle.checks.specs.Bgp4mp.{bgp4mp}
 use Rattle.checks.proofs.Largest.{bgp4mp-most, legacy-most}
 use Rattle.judge.specs.Body.{tableDump, check}
-use Rattle.judge.specs.Candidate.{family}
+use Rattle.candidate.specs.Candidate.{family}
 
 -- THEOREM. A record of a family whose body passes its check has a stored length of at most 65,579: the bound of 65,599 that a
 -- candidate is held to never decides.

@@ -1,9 +1,9 @@
 use mathlib.Core.Path.{_∙_}
 use native.Mathlib.Omega.{arith}
-use Rattle.judge.proofs.Candidates.{candidate-near, candidate-other, candidate-long, candidate-taken}
+use Rattle.candidate.proofs.Candidates.{candidate-near, candidate-other, candidate-long, candidate-taken}
 use borrow.Author.Needs.{needs}
-use Rattle.judge.proofs.candidate.candidate_at.Statement.{statement}
-use Rattle.judge.proofs.candidate.candidate_at.Tie as tie
+use Rattle.candidate.proofs.candidate.candidate_at.Statement.{statement}
+use Rattle.candidate.proofs.candidate.candidate_at.Tie as tie
 
 returns : tie.Need-returns
 returns c = candidate-near _ _ (omega arith)
