@@ -9,9 +9,9 @@ use lib.Dec.{ltb, eqb}
 use Rattle.lent.specs.Export.{sixteenOf}
 use Rattle.peer.specs.declared.Peer.{Peer}
 use Rattle.peer_slots.specs.Used.{wrongCount}
-use Rattle.peers.specs.Add.{adding, appendPeer, addPeer}
-use Rattle.peers.specs.declared.AddAnswer.{AddAnswer}
-use Rattle.peers.specs.declared.AddAnswer.the-variants.{Known, Added, Refused}
+use Rattle.peers_add.specs.Add.{adding, appendPeer, addPeer}
+use Rattle.peers_add.specs.declared.AddAnswer.{AddAnswer}
+use Rattle.peers_add.specs.declared.AddAnswer.the-variants.{Known, Added, Refused}
 use Rattle.peers.specs.Find.{Finding, lookUp, findPeer}
 use Rattle.mrt_peers.specs.Add.{addedAs, addedOut, addOut}
 use Rattle.mrt_peers.specs.Given.{countFor, keyFor, peerFor, freshOf}

@@ -1,5 +1,4 @@
--- Slots: one of the slots in use. Find, Add: the definitions of the calls. Steps: what the calls' own helpers decide.
+-- Slots: one of the slots in use. Find: a lookup. Steps: what the calls' own helpers decide.
 pub mod Slots
 pub mod Find
-pub mod Add
 pub mod Steps

@@ -22,8 +22,8 @@ pub fn peer_at(slots: &[Peer], count: usize, id: usize) -> PeerAnswer
 }
 
 // The highest id that holds the key's address.
-pub(crate) fn look_up(slots: &[Peer], count: usize, key: Peer) -> FindAnswer
-    ensures { λ r. ⌜ finding r ≡ lookUp (now (slots .entry)) count key ⌝ }
+pub fn look_up(slots: &[Peer], count: usize, key: Peer) -> FindAnswer
+    ensures answer { λ r. ⌜ finding r ≡ lookUp (now (slots .entry)) count key ⌝ }
 {
     let mut search = begin_search(slots.len(), count);
     while 0 < search.count {

@@ -1,17 +1,12 @@
 // What the functions over slots ask, by value.
 ghost use mathlib.Core.Path.{_≡_};
-ghost use mathlib.Core.List.{[]};
-ghost use Rattle.answer.specs.Refusal.{numberOf};
 ghost use Rattle.peer.specs.Peer.{nobody};
 ghost use Rattle.peer_slots.specs.Used.{inUse};
 ghost use Rattle.peers.specs.Slots.{slot};
 ghost use Rattle.peers.specs.Find.{finding, lost};
-ghost use Rattle.peers.specs.Add.{adding, notAdded};
-ghost use Rattle.peers.specs.Steps.{judged, newPlace, placeOf};
-use crate::AddAnswer;
+ghost use Rattle.peers.specs.Steps.{judged};
 use crate::FindAnswer;
 use crate::PeerAnswer;
-use crate::Place;
 use crate::Search;
 use answer::Outcome;
 use answer::Refusal;
@@ -67,49 +62,4 @@ pub(crate) fn judge(best: FindAnswer, i: usize, p: Peer, key: Peer) -> Search
         };
     }
     Search { best, count: i }
-}
-
-// Where a new peer goes, after its address was looked up.
-pub(crate) fn place(slots: usize, count: usize, found: FindAnswer) -> Place
-    ensures { λ r. ⌜ (adding (r .answer) [], r .at) ≡ placeOf slots count (finding found) ⌝ }
-{
-    match found {
-        FindAnswer::Id(id) => Place {
-            answer: AddAnswer::Known(id),
-            at: slots,
-        },
-        FindAnswer::Refused(_) => place_new(slots, count),
-    }
-}
-
-// Where a peer goes whose address is not known.
-fn place_new(slots: usize, count: usize) -> Place
-    ensures { λ r. ⌜ (adding (r .answer) [], r .at) ≡ newPlace slots count ⌝ }
-{
-    if slots < count {
-        return no_place(Refusal::Beyond, slots);
-    }
-    if 65535 < count {
-        return no_place(Refusal::Beyond, slots);
-    }
-    if count == 65535 {
-        return no_place(Refusal::TooLarge, slots);
-    }
-    if slots == count {
-        return no_place(Refusal::NoRoom, slots);
-    }
-    Place {
-        answer: AddAnswer::Added(count as u16),
-        at: count,
-    }
-}
-
-// A refusal, and no place.
-fn no_place(why: Refusal, slots: usize) -> Place
-    ensures { λ r. ⌜ (adding (r .answer) [] ≡ notAdded (numberOf why) []) × (r .at ≡ slots) ⌝ }
-{
-    Place {
-        answer: AddAnswer::Refused(why),
-        at: slots,
-    }
 }

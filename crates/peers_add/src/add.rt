@@ -1,8 +1,7 @@
 // A peer added.
 ghost use mathlib.Core.Path.{_≡_};
-ghost use Rattle.peers.specs.Add.{addPeer, adding};
+ghost use Rattle.peers_add.specs.Add.{addPeer, adding};
 use crate::AddAnswer;
-use crate::find::look_up;
 use crate::step::place;
 use peer::Peer;
 
@@ -10,7 +9,7 @@ use peer::Peer;
 pub fn add_peer(slots: &mut [Peer], count: usize, p: Peer) -> AddAnswer
     ensures answer { λ r. ⌜ adding r (now (slots .exit)) ≡ addPeer (now (slots .entry)) count p ⌝ }
 {
-    let found = look_up(slots, count, p);
+    let found = peers::look_up(slots, count, p);
     let n = slots.len();
     let new = place(n, count, found);
     let at = new.at;

@@ -9,9 +9,9 @@ use Rattle.answer.specs.Refusal.{numberOf}
 use Rattle.peer.specs.Peer.{stored}
 use Rattle.peer.specs.declared.Peer.{Peer}
 use Rattle.peer_slots.specs.Used.{wrongCount}
 use Rattle.peers.specs.Find.{lookUp}
-use Rattle.peers.specs.declared.AddAnswer.{AddAnswer}
-use Rattle.peers.specs.declared.AddAnswer.the-variants.{Known, Added, Refused}
+use Rattle.peers_add.specs.declared.AddAnswer.{AddAnswer}
+use Rattle.peers_add.specs.declared.AddAnswer.the-variants.{Known, Added, Refused}
 
 -- an answer in numbers: the refusal's number or 0, the id, how many peers were added, and the slots after the call
 pub record Adding : Type 0 where

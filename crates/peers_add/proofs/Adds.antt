@@ -10,11 +10,11 @@ use lib.Dec.{ltb, leb, eqb}
 use Rattle.peer.specs.Peer.{stored}
 use Rattle.peer.specs.declared.Peer.{Peer}
 use Rattle.peer_slots.specs.Used.{wrongCount}
 use Rattle.peers.specs.Find.{Finding, lookUp}
-use Rattle.peers.specs.Add.{Adding, adding, appendPeer, addPeer}
-use Rattle.peers.specs.Steps.{newPlace, placeOf}
-use Rattle.peers.specs.declared.AddAnswer.{AddAnswer}
-use Rattle.peers.specs.declared.AddAnswer.the-variants.{Known, Added, Refused}
+use Rattle.peers_add.specs.Add.{Adding, adding, appendPeer, addPeer}
+use Rattle.peers_add.specs.Steps.{newPlace, placeOf}
+use Rattle.peers_add.specs.declared.AddAnswer.{AddAnswer}
+use Rattle.peers_add.specs.declared.AddAnswer.the-variants.{Known, Added, Refused}
 
 -- an answer, with other slots
 abbrev with-slots : Adding → List Peer → Adding

@@ -1,9 +1,9 @@
 use Rattle.peer_slots.proofs.Counts.{wrong-slots, wrong-large, right}
-use Rattle.peers.proofs.Steps.{both, place-wrong, place-last, place-full, place-free}
+use Rattle.peers_add.proofs.Steps.{both, place-wrong, place-last, place-full, place-free}
 use mathlib.Core.Path.{_∙_}
 use borrow.Author.Needs.{needs}
-use Rattle.peers.proofs.step.place_new.Statement.{statement}
-use Rattle.peers.proofs.step.place_new.Tie as tie
+use Rattle.peers_add.proofs.step.place_new.Statement.{statement}
+use Rattle.peers_add.proofs.step.place_new.Tie as tie
 
 no-place-requires : tie.Need-no-place-requires
 no-place-requires c κs = search needs

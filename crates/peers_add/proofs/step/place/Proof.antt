@@ -1,7 +1,7 @@
-use Rattle.peers.proofs.Steps.{place-known, place-unknown}
+use Rattle.peers_add.proofs.Steps.{place-known, place-unknown}
 use borrow.Author.Needs.{needs}
-use Rattle.peers.proofs.step.place.Statement.{statement}
-use Rattle.peers.proofs.step.place.Tie as tie
+use Rattle.peers_add.proofs.step.place.Statement.{statement}
+use Rattle.peers_add.proofs.step.place.Tie as tie
 
 enum-known-found : tie.Need-enum-known-found
 enum-known-found c = search needs

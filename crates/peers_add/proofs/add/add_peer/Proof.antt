@@ -1,4 +1,4 @@
--- `peers::add_peer` meets its contract: a walk of its MIR, by hand. The slots' borrow is opened, and all of it is lent as a shared
+-- `peers_add::add_peer` meets its contract: a walk of its MIR, by hand. The slots' borrow is opened, and all of it is lent as a shared
 -- slice to `look_up` for a lifetime of that call; it comes back as it was. `place` then says which slot to write, if any, and the
 -- borrow is closed at the slots with the peer in it, or as they were. Assumes nothing.
 use mathlib.Core.Path.{_≡_, refl, sym, _∙_, ap, subst}
@@ -58,33 +58,33 @@ use Rattle.peer.proofs.stored_peer as store′
 use Rattle.peer.proofs.stored_peer.Symbol as store-def
 use Rattle.peer.proofs.stored_peer.Symbol.{name as #stored-peer}
 use Rattle.peer.proofs.stored_peer.Met as store-thm
 use Rattle.peers.specs.Find.{finding, lookUp}
-use Rattle.peers.specs.Add.{Adding, adding, addPeer}
-use Rattle.peers.specs.Steps.{placeOf}
+use Rattle.peers_add.specs.Add.{Adding, adding, addPeer}
+use Rattle.peers_add.specs.Steps.{placeOf}
 use Rattle.peers.specs.declared.FindAnswer.{FindAnswer}
-use Rattle.peers.specs.declared.AddAnswer.{AddAnswer}
-use Rattle.peers.specs.declared.Place.{Place}
+use Rattle.peers_add.specs.declared.AddAnswer.{AddAnswer}
+use Rattle.peers_add.specs.declared.Place.{Place}
 use Rattle.peer_slots.proofs.Shape.{stride, vals, low, word, lentSlots}
-use Rattle.peers.proofs.Adds.{add-stored, add-kept}
+use Rattle.peers_add.proofs.Adds.{add-stored, add-kept}
 use Rattle.peers.proofs.FindAnswer as F
 use Rattle.peers.proofs.FindAnswer.Laws as F′
-use Rattle.peers.proofs.AddAnswer as D
-use Rattle.peers.proofs.AddAnswer.Laws as D′
-use Rattle.peers.proofs.Place as P
-use Rattle.peers.proofs.Place.Laws as P′
-use Rattle.peers.proofs.find.look_up as look′
-use Rattle.peers.proofs.find.look_up.Symbol as look-def
-use Rattle.peers.proofs.find.look_up.Symbol.{name as #look-up}
-use Rattle.peers.proofs.find.look_up.Met as look-thm
-use Rattle.peers.proofs.step.place as place′
-use Rattle.peers.proofs.step.place.Symbol as place-def
-use Rattle.peers.proofs.step.place.Symbol.{name as #place}
-use Rattle.peers.proofs.step.place.Met as place-thm
-use Rattle.peers.proofs.add.add_peer.Key.{name as #add-peer}
-use Rattle.peers.proofs.add.add_peer as add′
-use Rattle.peers.proofs.add.add_peer.Statement as stated
-use Rattle.peers.proofs.add.add_peer.Code as code
-use Rattle.peers.proofs.add.add_peer.Code.Mir as mirs
+use Rattle.peers_add.proofs.AddAnswer as D
+use Rattle.peers_add.proofs.AddAnswer.Laws as D′
+use Rattle.peers_add.proofs.Place as P
+use Rattle.peers_add.proofs.Place.Laws as P′
+use Rattle.peers.proofs.look_up as look′
+use Rattle.peers.proofs.look_up.Symbol as look-def
+use Rattle.peers.proofs.look_up.Symbol.{name as #look-up}
+use Rattle.peers.proofs.look_up.Met as look-thm
+use Rattle.peers_add.proofs.step.place as place′
+use Rattle.peers_add.proofs.step.place.Symbol as place-def
+use Rattle.peers_add.proofs.step.place.Symbol.{name as #place}
+use Rattle.peers_add.proofs.step.place.Met as place-thm
+use Rattle.peers_add.proofs.add.add_peer.Key.{name as #add-peer}
+use Rattle.peers_add.proofs.add.add_peer as add′
+use Rattle.peers_add.proofs.add.add_peer.Statement as stated
+use Rattle.peers_add.proofs.add.add_peer.Code as code
+use Rattle.peers_add.proofs.add.add_peer.Code.Mir as mirs
 
 abbrev stayed : Stays (add′.ended .signature .params) (add′.ended .kept)
 stayed = (stay-slice (0 ∷ []) tt (plain (λ _. T.the-row)), (stay-none (λ _. usize) yes, (stay-none (λ _. T.the-row) yes, tt)))
@@ -433,9 +433,9 @@ add-peer-spec 𝓤 H 𝓜 𝓖 𝓡 =
     entered 𝓤 H (tripleOf 𝓤 H (𝓖 .A) add′.signature (add′.spec 𝓤 H (𝓖 .A) (𝓜 .mem) (𝓡 .run)))
     (tables 𝓤 H 𝓜 𝓡 code.env .C) (tables 𝓤 H 𝓜 𝓡 code.env .Λ) #add-peer code.function (code.unfolded 𝓤 H 𝓜 𝓡)
     (add-meets 𝓤 H (𝓖 .A) (givenOf 𝓤 H 𝓜 𝓖) (𝓜 .mem) (𝓡 .run) (tablesOf 𝓤 H 𝓜 (tables 𝓤 H 𝓜 𝓡 code.env))
-    (cited 𝓤 H (Look 𝓤 H (𝓖 .A) (𝓜 .mem) (𝓡 .run)) 𝓜 𝓡 code.env #look-up look-def.routine code.calls-peers·find·look-up
+    (cited 𝓤 H (Look 𝓤 H (𝓖 .A) (𝓜 .mem) (𝓡 .run)) 𝓜 𝓡 code.env #look-up look-def.routine code.calls-peers·look-up
     (look-thm.met 𝓤 H 𝓜 𝓖 𝓡))
-    (cited 𝓤 H (Places 𝓤 H (𝓖 .A) (𝓜 .mem) (𝓡 .run)) 𝓜 𝓡 code.env #place place-def.routine code.calls-peers·step·place
+    (cited 𝓤 H (Places 𝓤 H (𝓖 .A) (𝓜 .mem) (𝓡 .run)) 𝓜 𝓡 code.env #place place-def.routine code.calls-peers-add·step·place
     (place-thm.met 𝓤 H 𝓜 𝓖 𝓡))
     (cited 𝓤 H (Store 𝓤 H (𝓖 .A) (𝓜 .mem) (𝓡 .run)) 𝓜 𝓡 code.env #stored-peer store-def.routine code.calls-peer·stored-peer
     (store-thm.met 𝓤 H 𝓜 𝓖 𝓡)))
