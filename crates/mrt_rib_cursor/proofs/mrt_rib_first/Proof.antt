@@ -1,11 +1,11 @@
 use mathlib.Core.Path.{refl}
 use Rattle.rib_entries.specs.Entry.{Placed, cursorValues}
 use Rattle.rib_entries.specs.declared.CursorAnswer.the-variants.{Refused}
-use Rattle.mrt_rib_entries.specs.Entries.{placedValues}
+use Rattle.mrt_rib_cursor.specs.Entries.{placedValues}
 use Rattle.lent.proofs.Handing.{refuses, hands}
 use borrow.Author.Needs.{needs}
-use Rattle.mrt_rib_entries.proofs.mrt_rib_first.Statement.{statement}
-use Rattle.mrt_rib_entries.proofs.mrt_rib_first.Tie as tie
+use Rattle.mrt_rib_cursor.proofs.mrt_rib_first.Statement.{statement}
+use Rattle.mrt_rib_cursor.proofs.mrt_rib_first.Tie as tie
 
 first-entry-requires : tie.Need-first-entry-requires
 first-entry-requires c κs = search needs

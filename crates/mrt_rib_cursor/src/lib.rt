@@ -1,7 +1,7 @@
 // The entries of RIB bodies across the boundary, by number and by a cursor.
 ghost use mathlib.Core.Path.{_≡_};
 ghost use Rattle.rib_entries.specs.Entry.{entryOf, firstOf, nextOf};
-ghost use Rattle.mrt_rib_entries.specs.Entries.{entryOut, placedOut, stepOut};
+ghost use Rattle.mrt_rib_cursor.specs.Entries.{entryOut, placedOut, stepOut};
 use lent::hand_out;
 use lent::refusal;
 use rib_entries::Cursor;
