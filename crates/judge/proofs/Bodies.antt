@@ -6,8 +6,8 @@ use mathlib.Core.List.{List}
 use native.Mathlib.Omega.{arith}
 use lib.Dec.{eqb}
 use borrow.Author.Tests.{eq-eqb, ne-eqb, eqb-true, eqb-false}
-use Rattle.peer.specs.Table.{checkPeers}
-use Rattle.rib.specs.Head.{checkRib}
+use Rattle.table.specs.Table.{checkPeers}
+use Rattle.rib_head.specs.Head.{checkRib}
 use Rattle.checks.specs.Legacy.{legacy}
 use Rattle.checks.specs.Bgp4mp.{bgp4mp}
 use Rattle.judge.specs.Body.{check, tableDump}

@@ -1,8 +1,6 @@
--- Bodies, Judging, Candidates: what the definitions of specs/ are in each of their cases. Soundness: what the walk rests on.
--- Bound: the bound that never decides. Unique: answers that say the same are equal.
+-- Bodies, Judging: what the definitions of specs/ are in each of their cases. Soundness: what the walk rests on. Unique: answers that say
+-- the same are equal.
 pub mod Bodies
 pub mod Soundness
 pub mod Judging
-pub mod Candidates
-pub mod Bound
 pub mod Unique

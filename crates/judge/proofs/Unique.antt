@@ -6,15 +6,12 @@ use Rattle.answer.specs.Refusal.{numberOf, outcomeNumber}
 use Rattle.answer.proofs.Refusals.{number-not-zero, number-unique}
 use Rattle.header.specs.Frame.{Framing, unframed}
 use Rattle.header.specs.Back.{headerOf}
-use Rattle.walk.specs.Judged.{Judged, fit, off, cut, Candidate, stands, fails}
+use Rattle.walk.specs.Judged.{Judged, fit, off, cut}
 use Rattle.judge.specs.Record.{Judging, judging, judged}
-use Rattle.judge.specs.Candidate.{candidacy}
 use Rattle.judge.specs.declared.JudgeAnswer.{JudgeAnswer}
 use Rattle.judge.specs.declared.JudgeAnswer.the-variants.{Record, Refused}
 use Rattle.judge.specs.declared.Verdict.{Verdict}
 use Rattle.judge.specs.declared.Verdict.the-variants.{Fit, Off, Cut}
-use Rattle.judge.specs.declared.CandidateAnswer.{CandidateAnswer}
-use Rattle.judge.specs.declared.CandidateAnswer.the-variants.{Stands, Fails}
 
 pub judging-unique : (a b : JudgeAnswer) → judging a ≡ judging b → a ≡ b
 judging-unique (Record s h w x y) (Record t i v p q) e =
@@ -44,13 +41,3 @@ judged-unique (Off r z) (Cut q) e = absurd (let n : _≡_ {A = ℕ} 0 1 = cc in 
 judged-unique (Cut r) (Fit h w x y) e = absurd (let n : _≡_ {A = ℕ} 0 1 = cc in omega arith)
 judged-unique (Cut r) (Off q z) e = absurd (let n : _≡_ {A = ℕ} 0 1 = cc in omega arith)
 judged-unique (Cut r) (Cut q) e = ap Cut (number-unique r q (let n : numberOf r ≡ numberOf q = cc in n))
-
-pub candidacy-unique : (a b : CandidateAnswer) → candidacy a ≡ candidacy b → a ≡ b
-candidacy-unique (Stands f v e) (Stands g w d) q =
-    let x : f ≡ g = cc in
-    let y : v ≡ w = cc in
-    let z : e ≡ d = cc in
-    rw (x, y, z)
-candidacy-unique (Stands f v e) Fails q = absurd (let n : _≡_ {A = ℕ} 0 1 = cc in omega arith)
-candidacy-unique Fails (Stands f v e) q = absurd (let n : _≡_ {A = ℕ} 0 1 = cc in omega arith)
-candidacy-unique Fails Fails q = refl

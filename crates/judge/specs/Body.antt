@@ -4,8 +4,8 @@ use Prim.Native.Nat.{ℕ}
 use mathlib.Core.List.{List}
 use mathlib.Core.Bool.{_||_, cond}
 use lib.Dec.{eqb}
-use Rattle.peer.specs.Table.{checkPeers}
-use Rattle.rib.specs.Head.{checkRib}
+use Rattle.table.specs.Table.{checkPeers}
+use Rattle.rib_head.specs.Head.{checkRib}
 use Rattle.checks.specs.Legacy.{legacy}
 use Rattle.checks.specs.Bgp4mp.{bgp4mp}
 

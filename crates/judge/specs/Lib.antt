@@ -1,4 +1,3 @@
--- Body: the body check by type. Record: the judgement of one record. Candidate: the test of the scan.
+-- Body: the body check by type. Record: the judgement of one record.
 pub mod Body
 pub mod Record
-pub mod Candidate

@@ -4,7 +4,7 @@ ghost use Rattle.answer.specs.Refusal.{outcomeNumber};
 ghost use Rattle.judge.specs.Body.{check, tableDump};
 use answer::Outcome;
 use answer::Refusal;
-use peer::TableAnswer;
+use table::TableAnswer;
 
 // The body of a record of a known type, with its stored length.
 pub fn check_body(body: &[u8], kind: u16, subtype: u16, stored: u32) -> Outcome
@@ -23,9 +23,9 @@ fn check_table_dump(body: &[u8], subtype: u16) -> Outcome
     ensures { λ r. ⌜ outcomeNumber r ≡ tableDump subtype (now (body .entry)) ⌝ }
 {
     if subtype != 1 {
-        return rib::check_rib(body, subtype);
+        return rib_head::check_rib(body, subtype);
     }
-    let t = peer::check_peers(body);
+    let t = table::check_peers(body);
     match t {
         TableAnswer::Refused(r) => Outcome::Refused(r),
         TableAnswer::Table {

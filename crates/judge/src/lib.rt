@@ -1,11 +1,9 @@
-// The judgement of one record, and the test that a scan puts a record to.
+// The judgement of one record.
 mod body;
-mod candidate;
 mod record;
 
 use answer::Refusal;
 pub use body::check_body;
-pub use candidate::candidate_at;
 use header::CommonHeader;
 use header::WireLength;
 pub use record::judge_at;
@@ -39,14 +37,4 @@ pub enum Verdict {
     },
     // No record is framed.
     Cut(Refusal),
-}
-
-pub enum CandidateAnswer {
-    // A record that a scan may take up.
-    Stands {
-        family: u8,
-        evidence: u8,
-        end: usize,
-    },
-    Fails,
 }

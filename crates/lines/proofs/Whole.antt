@@ -7,7 +7,7 @@ use lib.ListN.{length}
 use borrow.Author.Tests.{le-ltb}
 use Rattle.walk.specs.Step.{Answer, handed, gap, end, refused}
 use Rattle.walk.specs.Promises.{Promised, Covers, Sought}
-use Rattle.judge.specs.Candidate.{candidateAt}
+use Rattle.candidate.specs.Candidate.{candidateAt}
 use Rattle.recover.proofs.Theorems.{walk-promises}
 use Rattle.lines.specs.Listing.{fields, line, linesOf, walked, listing}
 

@@ -12,7 +12,7 @@ use Rattle.walk.specs.Step.{Answer, handed, gap, end, refused, Stepped, freshWa
 use Rattle.walk.specs.Promises.{answers}
 use Rattle.walk.specs.declared.Walk.{Walk}
 use Rattle.judge.specs.Record.{judgeAt}
-use Rattle.judge.specs.Candidate.{candidateAt}
+use Rattle.candidate.specs.Candidate.{candidateAt}
 
 -- the digits of v, at most k of them, the highest first
 unfoldable pub decimal : ℕ → ℕ → List ℕ

@@ -2,11 +2,11 @@
 ghost use mathlib.Core.Path.{_≡_};
 ghost use Rattle.rules.specs.Ask.{over};
 ghost use Rattle.judge.specs.Body.{check};
-ghost use Rattle.judge.specs.Candidate.{candidateAt};
+ghost use Rattle.candidate.specs.Candidate.{candidateAt};
 ghost use Rattle.judge.specs.Record.{judgementAt};
 ghost use Rattle.mrt_judge.specs.Judged.{judgedOut, candidateOut};
 use answer::Outcome;
-use judge::CandidateAnswer;
+use candidate::CandidateAnswer;
 use judge::JudgeAnswer;
 
 // The record at an offset of a stream, judged.
@@ -34,7 +34,7 @@ pub extern "C" fn mrt_judge(s: &[u8], at: usize, out: &mut [u64]) -> u32
 pub extern "C" fn mrt_candidate(s: &[u8], at: usize, out: &mut [u64]) -> u32
     ensures answer { λ r. ⌜ (now (out .exit), r) ≡ candidateOut (now (out .entry)) (over (now (s .entry)) (candidateAt at)) ⌝ }
 {
-    match judge::candidate_at(s, at) {
+    match candidate::candidate_at(s, at) {
         CandidateAnswer::Fails => {
             let v = [0u64; 4];
             lent::hand_out(out, &v)

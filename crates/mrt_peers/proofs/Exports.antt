@@ -8,15 +8,11 @@ use lib.ListN.{length}
 use lib.Dec.{ltb, eqb}
 use Rattle.lent.specs.Export.{sixteenOf}
 use Rattle.peer.specs.declared.Peer.{Peer}
-use Rattle.peers.specs.Slots.{wrongCount}
-use Rattle.peers.specs.Add.{adding, appendPeer, addPeer}
-use Rattle.peers.specs.declared.AddAnswer.{AddAnswer}
-use Rattle.peers.specs.declared.AddAnswer.the-variants.{Known, Added, Refused}
+use Rattle.peer_slots.specs.Used.{wrongCount}
+use Rattle.peers_add.specs.Add.{adding, appendPeer, addPeer}
+use Rattle.peers_add.specs.declared.AddAnswer.{AddAnswer}
+use Rattle.peers_add.specs.declared.AddAnswer.the-variants.{Known, Added, Refused}
 use Rattle.peers.specs.Find.{Finding, lookUp, findPeer}
-use Rattle.peer.specs.Table.{heading}
-use Rattle.peer.specs.declared.TableAnswer.{TableAnswer}
-use Rattle.peers.specs.Load.{Loading, loading}
-use Rattle.mrt_peers.specs.Load.{loadOut}
 use Rattle.mrt_peers.specs.Add.{addedAs, addedOut, addOut}
 use Rattle.mrt_peers.specs.Given.{countFor, keyFor, peerFor, freshOf}
 use Rattle.mrt_peers.specs.Find.{foundOf, findOut}
@@ -80,10 +76,6 @@ module _ (l : List Peer) (count kind : ℕ) (addr : List ℕ) where
       ∙ ap foundOf (f-is ∙ ap (findPeer l (k .count) (k .v6)) (map-id (k .addr)))
       ∙ ap (λ (x : Key). foundOf (findPeer l (x .count) (x .v6) (x .addr))) k-is
       ∙ looks
-
--- ---- a body read: the slots l that the call leaves, and the number that it answers
-pub load-out : (r : TableAnswer) {l : List Peer} {n : ℕ} {x : Loading} → loading r l ≡ x → n ≡ heading r .number → (l, n) ≡ loadOut x
-load-out r {l} e n-is = ap (λ (k : ℕ). (l, k)) n-is ∙ ap loadOut e
 
 -- ---- a peer added
 same-answer : (r : AddAnswer) (l : List Peer) → (l, addedAs (adding r [])) ≡ addedOut (adding r l)

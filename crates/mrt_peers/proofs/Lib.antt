@@ -1,3 +1,2 @@
--- Exports: what the calls over slots answer, from what the functions that they ask answer. Calls: the steps that their walks share.
+-- Exports: what the calls over slots answer, from what the functions that they ask answer.
 pub mod Exports
-pub mod Calls

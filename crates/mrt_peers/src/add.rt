@@ -1,12 +1,12 @@
 // A peer added.
 ghost use mathlib.Core.Path.{_≡_};
 ghost use mathlib.Core.List.{[]};
-ghost use Rattle.peers.specs.Add.{adding};
+ghost use Rattle.peers_add.specs.Add.{adding};
 ghost use Rattle.mrt_peers.specs.Add.{addOut, addedAs};
 use crate::Found;
 use crate::given::fresh_of;
 use peer::Peer;
-use peers::AddAnswer;
+use peers_add::AddAnswer;
 
 // What adding answers, in numbers.
 fn added_as(a: AddAnswer) -> Found
@@ -41,5 +41,5 @@ pub extern "C" fn mrt_add_peer(
     ensures answer { λ r. ⌜ (now (slots .exit), r) ≡ addOut (now (slots .entry)) count kind id (now (addr .entry)) asn ⌝ }
 {
     let fresh = fresh_of(count, kind, id, addr, asn);
-    added_as(peers::add_peer(slots, fresh.count, fresh.peer))
+    added_as(peers_add::add_peer(slots, fresh.count, fresh.peer))
 }

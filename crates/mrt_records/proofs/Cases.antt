@@ -1,13 +1,8 @@
 -- What stands at an offset, once it has been judged, and what the call is in each of its cases.
-use Prim.Native.Nat.{ℕ, _-_, _/_, _≤_}
+use Prim.Native.Nat.{ℕ, _/_, _≤_}
 use mathlib.Core.Path.{_≡_, sym, _∙_, ap}
-use mathlib.Core.List.{List, _++_, append-nil}
-use native.Mathlib.Nat.{add-zero}
-use native.Mathlib.Omega.{arith}
-use lib.ListN.{length, getD, take, drop, set, length-drop, drop-of-length-le}
-use lib.Seq.{take-all}
-use Rattle.octets.specs.Octets.{patch}
-use Rattle.octets.proofs.Stores.{patch-part}
+use mathlib.Core.List.{List}
+use lib.ListN.{length, getD, set}
 use borrow.Author.Tests.{eq-eqb, ne-eqb}
 use Rattle.rules.specs.Ask.{over}
 use Rattle.judge.specs.Record.{judgeAt, judged}
@@ -21,13 +16,6 @@ use Rattle.mrt_records.specs.Records.{recordTurn, recordAt, recordsOut}
 pub record-found : (s : List ℕ) (p : ℕ) {v w : Verdict} → judged v ≡ over s (judgeAt p) → v ≡ w → recordAt s p ≡ recordTurn p (judged w)
 unfolding recordAt
 record-found s p q e = ap (recordTurn p) (sym q ∙ ap judged e)
-
--- stores at the front of the part that starts at len, seen in the whole
-pub part-stored : (s : List ℕ) (len : ℕ) (bs : List ℕ) {u : List ℕ} → len ≤ length s → u ≡ patch (take (length s - len) (drop len s)) 0 bs
-    → take len s ++ (u ++ drop (length s - len) (drop len s)) ≡ patch s len bs
-part-stored s len bs {u} h e =
-    let k : length (drop len s) ≤ length s - len = simp length-drop (omega arith) in
-    rw (e, take-all (length s - len) (drop len s) k, drop-of-length-le (drop len s) k, append-nil, patch-part s len 0 bs h, add-zero)
 
 module _ (s ws out : List ℕ) where
   -- nothing is handed out

@@ -10,7 +10,7 @@ use Rattle.walk.specs.Judged.{Judged, fit, off, cut}
 use Rattle.walk.specs.Step.{Answer, handed, gap, end, refused, Stepped, at, step}
 use Rattle.walk.proofs.Turns.{step-fit}
 use Rattle.judge.specs.Record.{judgeAt}
-use Rattle.judge.specs.Candidate.{candidateAt}
+use Rattle.candidate.specs.Candidate.{candidateAt}
 use Rattle.judge.proofs.Soundness.{Inside, inside}
 use Rattle.lent.specs.Records.{recordValues}
 use Rattle.lent.specs.Rows.{Turn, row, none, Rows, rowsOn, rowsFrom}

@@ -11,12 +11,12 @@ use Rattle.answer.specs.declared.Outcome.the-variants.{Accepted, Refused}
 use Rattle.answer.specs.declared.Refusal.{Refusal}
 use Rattle.answer.proofs.Refusals.{number-not-zero}
 use Rattle.octets.specs.Octets.{patch}
-use Rattle.rib.specs.Head.{checkRib}
-use Rattle.rib.specs.Prefix.{prefixAt}
+use Rattle.rib_head.specs.Head.{checkRib}
+use Rattle.rib.specs.Rib.{prefixAt}
 use Rattle.rib.specs.Rib.{Reading, ribOf}
 use Rattle.rib.specs.Rib as rib
 use Rattle.rib.specs.declared.Rib.{Rib}
-use Rattle.rib.proofs.Prefixes.{length-cleared}
+use Rattle.rib_head.proofs.Prefixes.{length-cleared}
 use Rattle.mrt_rib.specs.Bodies.{ribValues, ribOut}
 
 -- a prefix that is read has 16 octets

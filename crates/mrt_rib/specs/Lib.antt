@@ -1,2 +1,2 @@
--- Bodies: what the calls that read RIB bodies return and leave.
+-- Bodies: what the call that reads a RIB body returns and leaves.
 pub mod Bodies

@@ -1,17 +1,11 @@
-// RIB bodies across the boundary, read.
+// RIB bodies across the boundary, read: the head, and how old a route is.
 ghost use mathlib.Core.Path.{_≡_};
-ghost use Rattle.rib.specs.Age.{ageOf};
-ghost use Rattle.rib.specs.Entry.{entryOf, firstOf, nextOf};
+ghost use Rattle.rib_head.specs.Age.{ageOf};
 ghost use Rattle.rib.specs.Rib.{ribOf};
-ghost use Rattle.mrt_rib.specs.Bodies.{entryOut, placedOut, stepOut, ribOut};
+ghost use Rattle.mrt_rib.specs.Bodies.{ribOut};
 use answer::Outcome;
-use lent::hand_out;
 use lent::put_values;
 use lent::refusal;
-use rib::Cursor;
-use rib::CursorAnswer;
-use rib::EntryAnswer;
-use rib::NextAnswer;
 
 // The head of a RIB body, and its prefix in 16 octets.
 #[no_mangle]
@@ -44,77 +38,10 @@ pub extern "C" fn mrt_read_rib(body: &[u8], subtype: u16, out: &mut [u64], prefi
     }
 }
 
-// The entry i of a RIB body.
-#[no_mangle]
-pub extern "C" fn mrt_rib_entry(body: &[u8], subtype: u16, i: usize, out: &mut [u64]) -> u32
-    ensures answer { λ r. ⌜ (now (out .exit), r) ≡ entryOut (now (out .entry)) (entryOf (now (body .entry)) subtype i) ⌝ }
-{
-    match rib::entry_at(body, subtype, i) {
-        EntryAnswer::Refused(r) => refusal(r),
-        EntryAnswer::Read(e) => {
-            let v = [
-                e.peer as u64,
-                e.originated as u64,
-                e.path as u64,
-                e.start as u64,
-                e.end as u64,
-            ];
-            hand_out(out, &v)
-        }
-    }
-}
-
-// The cursor at the first entry of a RIB body.
-#[no_mangle]
-pub extern "C" fn mrt_rib_first(body: &[u8], subtype: u16, out: &mut [u64]) -> u32
-    ensures answer { λ r. ⌜ (now (out .exit), r) ≡ placedOut (now (out .entry)) (firstOf (now (body .entry)) subtype) ⌝ }
-{
-    match rib::first_entry(body, subtype) {
-        CursorAnswer::Refused(r) => refusal(r),
-        CursorAnswer::At(c) => {
-            let v = [c.at as u64, c.left as u64];
-            hand_out(out, &v)
-        }
-    }
-}
-
-// The entry at a cursor, and the cursor after it.
-#[no_mangle]
-pub extern "C" fn mrt_rib_next(
-    body: &[u8],
-    subtype: u16,
-    at: usize,
-    left: u16,
-    out: &mut [u64],
-) -> u32
-    ensures answer { λ r. ⌜ (now (out .exit), r) ≡ stepOut (now (out .entry)) (nextOf (now (body .entry)) subtype (record { at = at; left = left })) ⌝ }
-{
-    match rib::next_entry(body, subtype, Cursor { at, left }) {
-        NextAnswer::Refused(r) => refusal(r),
-        NextAnswer::End => {
-            let v = [0u64; 8];
-            hand_out(out, &v)
-        }
-        NextAnswer::Entry { entry, cursor } => {
-            let v = [
-                1,
-                entry.peer as u64,
-                entry.originated as u64,
-                entry.path as u64,
-                entry.start as u64,
-                entry.end as u64,
-                cursor.at as u64,
-                cursor.left as u64,
-            ];
-            hand_out(out, &v)
-        }
-    }
-}
-
 // How old a route was when its record was written, in seconds.
 #[no_mangle]
 pub extern "C" fn mrt_age(timestamp: u32, originated: u32) -> i64
     ensures answer { λ r. ⌜ r ≡ ageOf timestamp originated ⌝ }
 {
-    rib::age(timestamp, originated)
+    rib_head::age(timestamp, originated)
 }

@@ -1,19 +1,15 @@
 -- What stands at a cursor, once it was asked for, and what the call is in each of its cases.
-use Prim.Native.Nat.{ℕ, _-_, _/_, _<_, _≤_}
+use Prim.Native.Nat.{ℕ, _/_, _<_, _≤_}
 use mathlib.Core.Path.{_≡_, sym, _∙_, ap}
 use mathlib.Core.Bool.{true, false}
-use mathlib.Core.List.{List, [], _∷_, _++_, append-nil}
-use native.Mathlib.Nat.{add-zero}
-use native.Mathlib.Omega.{arith}
-use lib.ListN.{length, getD, take, drop, set, length-drop, drop-of-length-le}
-use lib.Seq.{take-all}
+use mathlib.Core.List.{List}
+use lib.ListN.{length, getD, set}
 use borrow.Author.Tests.{le-leb, lt-leb}
 use Rattle.octets.specs.Octets.{patch}
-use Rattle.octets.proofs.Stores.{patch-part}
-use Rattle.rib.specs.Layout.{carried}
-use Rattle.rib.specs.Entry.{nextOf, nextValues}
-use Rattle.rib.specs.declared.Cursor.{Cursor}
-use Rattle.rib.specs.declared.NextAnswer.{NextAnswer}
+use Rattle.rib_head.specs.Layout.{carried}
+use Rattle.rib_entries.specs.Entry.{nextOf, nextValues}
+use Rattle.rib_entries.specs.declared.Cursor.{Cursor}
+use Rattle.rib_entries.specs.declared.NextAnswer.{NextAnswer}
 use Rattle.lent.specs.Rows.{rowsFrom, rowsOut, rowsHanded, noneHanded}
 use Rattle.lent.specs.declared.Handed.{Handed}
 use Rattle.mrt_rib_entries.specs.Entries.{entryTurn, entryAt, holdsCursor, cursorIn, entriesOut}
@@ -54,10 +50,3 @@ module _ (s : List ℕ) (t : ℕ) (cs out : List ℕ) where
         entries-taken l e =
             ap (λ (x : List ℕ × (ℕ × Cursor)). (set (set cs 0 (x .1 .1 .at)) 1 (x .1 .1 .left), (x .0, rowsHanded (x .1 .0)))) e
             ∙ simp (le-leb _ _ p, le-leb _ _ m, o, le-leb _ _ l)
-
--- stores at the front of the part that starts at len, seen in the whole
-pub part-stored : (s : List ℕ) (len : ℕ) (bs : List ℕ) {u : List ℕ} → len ≤ length s → u ≡ patch (take (length s - len) (drop len s)) 0 bs
-    → take len s ++ (u ++ drop (length s - len) (drop len s)) ≡ patch s len bs
-part-stored s len bs {u} h e =
-    let k : length (drop len s) ≤ length s - len = simp length-drop (omega arith) in
-    rw (e, take-all (length s - len) (drop len s) k, drop-of-length-le (drop len s) k, append-nil, patch-part s len 0 bs h, add-zero)

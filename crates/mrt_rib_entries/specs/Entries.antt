@@ -7,12 +7,12 @@ use mathlib.Core.Bool.{Bool, _&&_, cond}
 use lib.ListN.{length, getD}
 use lib.Dec.{leb}
 use Rattle.octets.specs.Octets.{patch}
-use Rattle.rib.specs.Layout.{carried}
-use Rattle.rib.specs.Entry.{Stepped, nextOf}
-use Rattle.rib.specs.declared.Cursor.{Cursor}
+use Rattle.rib_head.specs.Layout.{carried}
+use Rattle.rib_entries.specs.Entry.{Stepped, nextOf}
+use Rattle.rib_entries.specs.declared.Cursor.{Cursor}
 use Rattle.lent.specs.Rows.{Turn, row, none, Rows, rowsFrom, rowsHanded, noneHanded}
 use Rattle.lent.specs.declared.Handed.{Handed}
-use Rattle.mrt_rib.specs.Bodies.{entryValues}
+use Rattle.mrt_rib_cursor.specs.Entries.{entryValues}
 
 -- an entry that is handed out is a row, and the next one is looked for at the cursor after it
 abbrev pub entryTurn : Stepped → Turn Cursor

@@ -6,8 +6,8 @@ ghost use lib.ListN.{length};
 ghost use Rattle.lent.specs.Rows.{noneHanded, rowsFrom, rowsOut};
 ghost use Rattle.mrt_rib_entries.specs.Entries.{entriesOut, entryAt};
 use lent::Handed;
-use rib::Cursor;
-use rib::NextAnswer;
+use rib_entries::Cursor;
+use rib_entries::NextAnswer;
 
 // How many entries are handed out, and the cursor after them.
 struct Taken {
@@ -33,7 +33,7 @@ pub extern "C" fn mrt_rib_entries(
     if 65535 < left {
         return refuse(8);
     }
-    let l = rib::layout_of(subtype);
+    let l = rib_head::layout_of(subtype);
     if !l.carried {
         return refuse(6);
     }
@@ -59,7 +59,7 @@ fn take_entries(body: &[u8], subtype: u16, at: usize, left: u16, out: &mut [u64]
     let mut place: usize = 0;
     let mut count: u64 = 0;
     while 5 <= n - place {
-        match rib::next_entry(body, subtype, c) {
+        match rib_entries::next_entry(body, subtype, c) {
             NextAnswer::Refused(_) => return Taken { count, next: c },
             NextAnswer::End => return Taken { count, next: c },
             NextAnswer::Entry { entry, cursor } => {

@@ -5,7 +5,7 @@ use mathlib.Core.List.{List}
 use lib.ListN.{length}
 use borrow.Author.Tests.{le-leb, lt-leb}
 use Rattle.answer.specs.Writing.{Writing, refuse}
-use Rattle.rib_write.specs.Begin.{beginRib}
+use Rattle.rib_begin.specs.Begin.{beginRib}
 use Rattle.lent.specs.Export.{sixteenOf}
 use Rattle.mrt_rib_write.specs.Begin.{beginFrom}
 

@@ -5,7 +5,7 @@ use mathlib.Core.Bool.{cond}
 use lib.ListN.{length}
 use lib.Dec.{leb}
 use Rattle.answer.specs.Writing.{Writing, refuse}
-use Rattle.rib_write.specs.Begin.{beginRib}
+use Rattle.rib_begin.specs.Begin.{beginRib}
 use Rattle.lent.specs.Export.{sixteenOf}
 
 -- a body begun with a prefix that is lent

@@ -23,7 +23,7 @@ pub extern "C" fn mrt_begin_rib(
         return lent::wrote_of(Written::Refused(Refusal::Beyond));
     }
     let octets = lent::sixteen(prefix);
-    lent::wrote_of(rib_write::begin_rib(out, subtype, sequence, bits, octets))
+    lent::wrote_of(rib_begin::begin_rib(out, subtype, sequence, bits, octets))
 }
 
 // One more entry in a body that fills the first len octets of the lent output.

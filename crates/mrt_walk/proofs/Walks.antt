@@ -13,7 +13,7 @@ use Rattle.walk.specs.Judged.{Judged, fit}
 use Rattle.walk.specs.Step.{Answer, handed, Stepped, at, step}
 use Rattle.walk.specs.declared.Walk.{Walk}
 use Rattle.judge.specs.Record.{judgeAt}
-use Rattle.judge.specs.Candidate.{candidateAt}
+use Rattle.candidate.specs.Candidate.{candidateAt}
 use Rattle.judge.proofs.Soundness.{Inside, inside}
 use Rattle.walk.proofs.Turns.{step-fit}
 use Rattle.lent.specs.Records.{recordValues}

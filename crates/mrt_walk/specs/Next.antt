@@ -10,7 +10,7 @@ use Rattle.rules.specs.Ask.{over}
 use Rattle.walk.specs.Step.{Answer, handed, gap, end, refused, Stepped, step}
 use Rattle.walk.specs.declared.Walk.{Walk}
 use Rattle.judge.specs.Record.{judgeAt}
-use Rattle.judge.specs.Candidate.{candidateAt}
+use Rattle.candidate.specs.Candidate.{candidateAt}
 use Rattle.lent.specs.Export.{mark}
 use Rattle.lent.specs.Records.{recordValues}
 use Rattle.lent.specs.Walks.{onWalk}

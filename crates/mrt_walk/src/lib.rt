@@ -7,7 +7,7 @@ ghost use Rattle.rules.specs.Ask.{over};
 ghost use Rattle.answer.specs.Refusal.{numberOf};
 ghost use Rattle.walk.specs.Step.{step, gap, refused};
 ghost use Rattle.judge.specs.Record.{judgeAt};
-ghost use Rattle.judge.specs.Candidate.{candidateAt};
+ghost use Rattle.candidate.specs.Candidate.{candidateAt};
 ghost use Rattle.mrt_walk.specs.Next.{walkIn, answerOut, steppedOut, nextOut};
 use answer::Refusal;
 use judge::Verdict;

@@ -1,9 +1,5 @@
--- Sizes: what the type octet decides. Addresses: octets of an address. Records: one peer. Tables: the whole body. RoundTrip: one peer there
--- and back.
--- Unique: answers that say the same are equal.
+-- Sizes: what the type octet decides. Addresses: octets of an address. Records: one peer. Unique: answers that say the same are equal.
 pub mod Sizes
 pub mod Addresses
 pub mod Records
-pub mod Tables
-pub mod RoundTrip
 pub mod Unique

@@ -1,3 +1,2 @@
--- Peer: one peer. Table: the whole body.
+-- Peer: one peer.
 pub mod Peer
-pub mod Table

@@ -1,20 +1,16 @@
-// One peer of a PEER_INDEX_TABLE and the check of the table's body (RFC 6396, 4.3.1).
+// One peer of a PEER_INDEX_TABLE (RFC 6396, 4.3.1).
 mod address;
 mod kind;
 mod record;
-mod table;
 
 pub use address::address_key;
 pub use address::same_address;
 pub use address::stored_peer;
 use answer::Outcome;
-use answer::Refusal;
 pub use kind::peer_size;
 pub use kind::unfit_as;
 pub use record::put_peer;
 pub use record::read_peer;
-pub use table::check_peers;
-pub use table::view_name;
 
 // A peer, as the slots hold it.
 #[repr(C)]
@@ -33,19 +29,4 @@ pub struct PeerRead {
     pub peer: Peer,
     // Where the next peer starts.
     pub next: usize,
-}
-
-// What the check of a body answers.
-pub enum TableAnswer {
-    Table {
-        collector: u32,
-        // Where the view name starts in the body, and how many octets it has.
-        name: usize,
-        length: usize,
-        count: u16,
-        // Where the first peer starts and where the last one ends.
-        first: usize,
-        end: usize,
-    },
-    Refused(Refusal),
 }

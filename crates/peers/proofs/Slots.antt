@@ -4,36 +4,16 @@ use mathlib.Core.Path.{_≡_, refl, sym, _∙_, ap, subst}
 use mathlib.Core.List.{List}
 use mathlib.Core.Bool.{Bool, true, false, cond, _&&_}
 use native.Mathlib.Omega.{arith}
-use borrow.Author.Tests.{lt-leb, le-leb, ltb-true, ltb-false}
+use borrow.Author.Tests.{lt-leb, le-leb}
 use lib.ListN.{length, getD}
-use lib.Dec.{ltb, leb}
+use lib.Dec.{leb}
 use Rattle.peer.specs.Peer.{nobody, keyOf, sameAddress}
 use Rattle.peer.specs.declared.Peer.{Peer}
-use Rattle.peers.specs.Slots.{wrongCount, Slot, peerOf}
+use Rattle.peer_slots.specs.Used.{wrongCount, inUse}
+use Rattle.peer_slots.proofs.Counts.{used-either}
+use Rattle.peers.specs.Slots.{peerOf}
 use Rattle.peers.specs.Find.{Finding, found, lost, highest, lookUp, findPeer}
-use Rattle.peers.specs.Steps.{inUse, judged}
-use Rattle.peers.proofs.Steps.{wrong-slots, wrong-large, right, unused, all-used}
-
--- ---- the slots in use
-module _ (slots count : ℕ) where
-  pub used-either : {P : Type 0} → (wrongCount slots count ≡ true → inUse slots count ≡ 0 → P)
-      → (wrongCount slots count ≡ false → inUse slots count ≡ count → count ≤ slots → count ≤ 65535 → P) → P
-  used-either {P} f g = by-slots (ltb slots count) refl
-    where
-      wrong : wrongCount slots count ≡ true → P
-      wrong w = f w (sym (unused slots count w))
-
-      by-large : count ≤ slots → (t : Bool) → ltb 65535 count ≡ t → P
-      by-large h true e = wrong (wrong-large slots count h (ltb-true _ _ e))
-      by-large h false e = let w : wrongCount slots count ≡ false = right slots count h (ltb-false _ _ e) in
-          g w (sym (all-used slots count w)) h (ltb-false _ _ e)
-
-      by-slots : (t : Bool) → ltb slots count ≡ t → P
-      by-slots true e = wrong (wrong-slots slots count (ltb-true _ _ e))
-      by-slots false e = by-large (ltb-false _ _ e) (ltb 65535 count) refl
-
-  pub used-le : {m : ℕ} → m ≡ inUse slots count → m ≤ slots
-  used-le e = used-either (λ w z. omega arith) (λ w z h k. omega arith)
+use Rattle.peers.specs.Steps.{judged}
 
 -- ---- one peer
 module _ (l : List Peer) (count id : ℕ) where

@@ -6,7 +6,7 @@ use lib.ListN.{length, getD}
 use Rattle.answer.specs.Refusal.{numberOf}
 use Rattle.peer.specs.Peer.{nobody, sameAddress, keyOf}
 use Rattle.peer.specs.declared.Peer.{Peer}
-use Rattle.peers.specs.Slots.{wrongCount}
+use Rattle.peer_slots.specs.Used.{wrongCount}
 use Rattle.peers.specs.declared.FindAnswer.{FindAnswer}
 use Rattle.peers.specs.declared.FindAnswer.the-variants.{Id, Refused}
 

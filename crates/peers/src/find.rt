@@ -6,7 +6,6 @@ use crate::FindAnswer;
 use crate::PeerAnswer;
 use crate::step::begin_search;
 use crate::step::held;
-use crate::step::in_use;
 use crate::step::judge;
 use crate::step::not_held;
 use peer::Peer;
@@ -15,7 +14,7 @@ use peer::Peer;
 pub fn peer_at(slots: &[Peer], count: usize, id: usize) -> PeerAnswer
     ensures answer { λ r. ⌜ slot r ≡ peerOf (now (slots .entry)) count id ⌝ }
 {
-    let used = in_use(slots.len(), count);
+    let used = peer_slots::in_use(slots.len(), count);
     if id < used {
         return held(slots[id]);
     }
@@ -23,8 +22,8 @@ pub fn peer_at(slots: &[Peer], count: usize, id: usize) -> PeerAnswer
 }
 
 // The highest id that holds the key's address.
-pub(crate) fn look_up(slots: &[Peer], count: usize, key: Peer) -> FindAnswer
-    ensures { λ r. ⌜ finding r ≡ lookUp (now (slots .entry)) count key ⌝ }
+pub fn look_up(slots: &[Peer], count: usize, key: Peer) -> FindAnswer
+    ensures answer { λ r. ⌜ finding r ≡ lookUp (now (slots .entry)) count key ⌝ }
 {
     let mut search = begin_search(slots.len(), count);
     while 0 < search.count {

@@ -6,12 +6,12 @@ use crate::put::numbers;
 use crate::put::refused;
 use answer::Outcome;
 use answer::Written;
+use candidate::CandidateAnswer;
 use header::CommonHeader;
 use header::FrameAnswer;
 use header::HeaderAnswer;
 use header::StoredLength;
 use header::WireLength;
-use judge::CandidateAnswer;
 use judge::JudgeAnswer;
 
 // A header, and where its body starts and ends.
@@ -68,7 +68,7 @@ pub(crate) fn judge(a: &[u8], x: &[u8], out: &mut [u8]) -> usize {
 
 // x: the offset.
 pub(crate) fn candidate(a: &[u8], x: &[u8], out: &mut [u8]) -> usize {
-    match judge::candidate_at(a, number(x, 0)) {
+    match candidate::candidate_at(a, number(x, 0)) {
         CandidateAnswer::Fails => 0,
         CandidateAnswer::Stands {
             family,

@@ -7,7 +7,7 @@ use crate::put::sixteen;
 use crate::ribs::outcome_number;
 use peer::Peer;
 use peer::PeerRead;
-use peer::TableAnswer;
+use table::TableAnswer;
 
 fn put_read(out: &mut [u8], at: usize, r: PeerRead) -> usize {
     let p = r.peer;
@@ -26,7 +26,7 @@ fn put_read(out: &mut [u8], at: usize, r: PeerRead) -> usize {
 
 // The table's head alone.
 pub(crate) fn check(a: &[u8], out: &mut [u8]) -> usize {
-    match peer::check_peers(a) {
+    match table::check_peers(a) {
         TableAnswer::Refused(r) => refused(out, 0, r),
         TableAnswer::Table {
             collector,
@@ -52,7 +52,7 @@ pub(crate) fn check(a: &[u8], out: &mut [u8]) -> usize {
 
 // Every peer of a table that passes its check.
 pub(crate) fn table(a: &[u8], out: &mut [u8]) -> usize {
-    match peer::check_peers(a) {
+    match table::check_peers(a) {
         TableAnswer::Refused(r) => refused(out, 0, r),
         TableAnswer::Table {
             collector: _,

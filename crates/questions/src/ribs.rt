@@ -7,11 +7,11 @@ use crate::put::part;
 use crate::put::refused;
 use crate::put::sixteen;
 use answer::Outcome;
-use rib::Cursor;
-use rib::CursorAnswer;
-use rib::Entry;
-use rib::EntryAnswer;
-use rib::NextAnswer;
+use rib_entries::Cursor;
+use rib_entries::CursorAnswer;
+use rib_entries::Entry;
+use rib_entries::EntryAnswer;
+use rib_entries::NextAnswer;
 use rib_write::BuilderAnswer;
 use rib_write::NewEntry;
 
@@ -53,7 +53,7 @@ fn put_entry(out: &mut [u8], at: usize, e: Entry) -> usize {
 
 // x: the subtype, and the entry's number.
 pub(crate) fn entry(a: &[u8], x: &[u8], out: &mut [u8]) -> usize {
-    match rib::entry_at(a, octets::be16(x, 6), number(x, 1)) {
+    match rib_entries::entry_at(a, octets::be16(x, 6), number(x, 1)) {
         EntryAnswer::Refused(r) => refused(out, 0, r),
         EntryAnswer::Read(e) => put_entry(out, 0, e),
     }
@@ -62,7 +62,7 @@ pub(crate) fn entry(a: &[u8], x: &[u8], out: &mut [u8]) -> usize {
 // All entries, one after the other. x: the subtype.
 pub(crate) fn entries(a: &[u8], x: &[u8], out: &mut [u8]) -> usize {
     let subtype = octets::be16(x, 6);
-    match rib::first_entry(a, subtype) {
+    match rib_entries::first_entry(a, subtype) {
         CursorAnswer::Refused(r) => refused(out, 0, r),
         CursorAnswer::At(c) => hand_out(a, subtype, c, out),
     }
@@ -74,7 +74,7 @@ fn hand_out(a: &[u8], subtype: u16, c: Cursor, out: &mut [u8]) -> usize {
     let mut cursor = c;
     let mut turns = c.left as usize + 1;
     while 0 < turns {
-        match rib::next_entry(a, subtype, cursor) {
+        match rib_entries::next_entry(a, subtype, cursor) {
             NextAnswer::Refused(r) => return refused(out, p, r),
             NextAnswer::End => {
                 let end = [255];
@@ -96,7 +96,7 @@ fn hand_out(a: &[u8], subtype: u16, c: Cursor, out: &mut [u8]) -> usize {
 // x: the record's timestamp, the originated time, and two numbers: 1 where the age is the first less the second.
 pub(crate) fn age(x: &[u8], out: &mut [u8]) -> usize {
     let expected = difference(octets::be32(x, 20), octets::be32(x, 28));
-    let is_so = rib::age(octets::be32(x, 4), octets::be32(x, 12)) == expected;
+    let is_so = rib_head::age(octets::be32(x, 4), octets::be32(x, 12)) == expected;
     let values = [is_so as usize];
     numbers(out, 0, &values)
 }
@@ -113,7 +113,7 @@ pub(crate) fn begin(a: &[u8], b: &[u8], x: &[u8], out: &mut [u8]) -> usize {
     let sequence = octets::be32(x, 12);
     let bits = octets::octet(x, 23);
     let n = lend(out, a);
-    let w = rib_write::begin_rib(&mut out[..n], subtype, sequence, bits, prefix);
+    let w = rib_begin::begin_rib(&mut out[..n], subtype, sequence, bits, prefix);
     put_written(out, n, w)
 }
 

@@ -1,6 +1,4 @@
--- Scans: where a scan ends. Reading: what code has found, as the rules say it. Theorems: what a whole walk promises.
--- Unique: answers that say the same are equal.
-pub mod Scans
+-- Reading: what code has found, as the rules say it. Theorems: what a whole walk promises. Unique: answers that say the same are equal.
 pub mod Reading
 pub mod Theorems
 pub mod Unique

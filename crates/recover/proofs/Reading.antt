@@ -10,7 +10,7 @@ use Rattle.walk.specs.Judged.{Judged, fit, off, cut}
 use Rattle.walk.specs.Step.{moved, gap, asked, Tried, passed, failed, Found, found, aligned, scan, scanned}
 use Rattle.walk.proofs.Turns.{aligned-enough, aligned-end, aligned-fit, aligned-off, aligned-cut, scanned-found}
 use Rattle.judge.specs.Record.{judgeAt}
-use Rattle.judge.specs.Candidate.{candidateAt}
+use Rattle.candidate.specs.Candidate.{candidateAt}
 
 -- a try of n records from `at` on, of which m have passed, and the next is judged at p
 module _ (s : List ℕ) (n at : ℕ) where

@@ -8,8 +8,8 @@ use Rattle.walk.specs.Promises.{answers, Promised, Last}
 use Rattle.walk.proofs.Calls.{call}
 use Rattle.walk.proofs.Demand3.{demand-3, last-stays}
 use Rattle.judge.specs.Record.{judgeAt}
-use Rattle.judge.specs.Candidate.{candidateAt}
-use Rattle.judge.proofs.Candidates.{sound}
+use Rattle.candidate.specs.Candidate.{candidateAt}
+use Rattle.candidate.proofs.Candidates.{sound}
 
 -- THEOREM. The first 2 * (n / 12) + 2 calls of a fresh walk over any n octets have among them the last answer; their answers
 -- cover the octets, each gap is followed by the records that it reports, no two gaps touch, and each scan ends at the least

@@ -2,15 +2,13 @@
 use Prim.Native.Nat.{ℕ}
 use Rattle.answer.specs.Refusal.{numberOf}
 use Rattle.header.specs.Read.{accepted}
-use Rattle.walk.specs.Step.{Answer, handed, gap, end, refused, passed, failed, found, nowhere}
+use Rattle.walk.specs.Step.{Answer, handed, gap, end, refused, passed, failed}
 use Rattle.walk.specs.Step as rule
 use Rattle.recover.specs.declared.WalkAnswer.{WalkAnswer}
 use Rattle.recover.specs.declared.WalkAnswer.the-variants.{Record, Gap, End, Window, Refused}
 use Rattle.recover.specs.declared.Stepped.{Stepped}
 use Rattle.recover.specs.declared.Tried.{Tried}
 use Rattle.recover.specs.declared.Tried.the-variants.{Passed, Failed}
-use Rattle.recover.specs.declared.Found.{Found}
-use Rattle.recover.specs.declared.Found.the-variants.{At, Nowhere}
 
 -- a window refusal is 11, with where the scan started, its window and the number of the record there
 abbrev pub said : WalkAnswer → Answer
@@ -24,11 +22,7 @@ said (Refused r) = refused (numberOf r) 0 0 0
 abbrev pub stepped : Stepped → rule.Stepped
 stepped x = record { walk = x .walk; answer = said (x .answer) }
 
--- the answers of the two parts that a call is made of
+-- what the try at a record's own end says
 abbrev pub tried : Tried → rule.Tried
 tried (Passed m) = passed m
 tried Failed = failed
-
-abbrev pub sighted : Found → rule.Found
-sighted (At o v) = found o v
-sighted Nowhere = nowhere

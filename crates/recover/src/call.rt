@@ -6,16 +6,15 @@ ghost use Rattle.answer.specs.Refusal.{numberOf};
 ghost use Rattle.rules.specs.Ask.{over};
 ghost use Rattle.walk.specs.Step.{asked as askedOf, unfound as unfoundRule, scanned, ownEnd, moved, stopped, step as stepRule};
 ghost use Rattle.judge.specs.Record.{judgeAt};
-ghost use Rattle.judge.specs.Candidate.{candidateAt};
+ghost use Rattle.candidate.specs.Candidate.{candidateAt};
 ghost use Rattle.recover.specs.Answers.{said, stepped};
-use crate::Found;
 use crate::Stepped;
 use crate::Tried;
 use crate::WalkAnswer;
 use crate::aligned::try_own_end;
-use crate::scan::scan;
 use answer::Refusal;
 use judge::Verdict;
+use scan::Found;
 use walk::Walk;
 
 // The next answer of a walk over a whole stream, and the walk after it.
@@ -93,7 +92,7 @@ fn search(s: &[u8], p: usize, window: usize, asked: u8, refusal: Refusal) -> Ste
     ensures { λ r. ⌜ stepped r ≡ over (now (s .entry)) (scanned judgeAt candidateAt p window asked (numberOf refusal)) ⌝ }
 {
     let confirmed = at_least_one(asked);
-    match scan(s, p, window, confirmed - 1) {
+    match scan::scan(s, p, window, confirmed - 1) {
         Found::Nowhere => unfound(s, p, window, refusal),
         Found::At { offset, evidence } => go_on(
             offset,

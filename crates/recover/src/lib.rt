@@ -1,7 +1,6 @@
 // The recovering walk: records handed out one by one, and gaps where none can be taken.
 mod aligned;
 mod call;
-mod scan;
 
 use answer::Refusal;
 pub use call::next;
@@ -48,10 +47,4 @@ pub struct Stepped {
 pub(crate) enum Tried {
     Passed(u8),
     Failed,
-}
-
-// The offset where the asked run of one family stands, with the first one's evidence.
-pub(crate) enum Found {
-    At { offset: usize, evidence: u8 },
-    Nowhere,
 }

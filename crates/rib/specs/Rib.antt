@@ -6,10 +6,11 @@ use mathlib.Core.Bool.{cond}
 use lib.ListN.{replicate}
 use lib.Dec.{eqb}
 use Rattle.answer.specs.Refusal.{outcomeNumber}
-use Rattle.octets.specs.Octets.{beAt}
-use Rattle.rib.specs.Prefix.{prefixAt}
-use Rattle.rib.specs.Head.{bitsOf, declared, entriesAt, checkRib}
-use Rattle.rib.specs.Entry.{readCount}
+use Rattle.octets.specs.Octets.{beAt, part}
+use Rattle.rib_head.specs.Layout.{prefixSize}
+use Rattle.rib_head.specs.Prefix.{cleared}
+use Rattle.rib_head.specs.Head.{bitsOf, declared, entriesAt, checkRib}
+use Rattle.rib_entries.specs.Entry.{readCount}
 use Rattle.rib.specs.declared.Rib.{Rib}
 
 -- an answer in numbers: the refusal's number or 0, and the values of the fields
@@ -38,6 +39,10 @@ ribValues r =
       count = r .count;
       entries = r .entries;
     }
+
+-- the prefix octets of the body s, in 16 octets
+unfoldable pub prefixAt : ℕ → List ℕ → List ℕ
+prefixAt bits s = cleared bits (part s 5 (prefixSize bits)) 16
 
 -- the body s of subtype t, read
 unfoldable pub ribOf : List ℕ → ℕ → Reading

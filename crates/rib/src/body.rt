@@ -1,24 +1,26 @@
-// Reading a whole RIB body: its head, and how many of its entries are there.
+// Reading a whole RIB body: its head, how many of its entries are there, and the attributes of one.
 ghost use mathlib.Core.Path.{_≡_};
+ghost use Prim.Native.Nat.{_+_, _-_, _≤_};
+ghost use lib.ListN.{length};
 ghost use Rattle.answer.specs.Refusal.{numberOf};
-ghost use Rattle.rib.specs.Rib.{ribValues, noRib, ribOf};
-use crate::CursorAnswer;
+ghost use Rattle.octets.specs.Octets.{part};
+ghost use Rattle.rib_head.specs.Layout.{prefixSize};
+ghost use Rattle.rib.specs.Rib.{ribValues, noRib, prefixAt, ribOf};
 use crate::Rib;
-use crate::entries::first_entry;
-use crate::entries::pass_entries;
-use crate::prefix::prefix_of;
 use answer::Outcome;
 use answer::Refusal;
+use rib_entries::CursorAnswer;
+use rib_entries::Entry;
 
 // The head of a body, with the declared count and how many entries fit.
 pub fn read_rib(body: &[u8], subtype: u16) -> Rib
     ensures answer { λ r. ⌜ ribValues r ≡ ribOf (now (body .entry)) subtype ⌝ }
 {
-    match first_entry(body, subtype) {
+    match rib_entries::first_entry(body, subtype) {
         CursorAnswer::Refused(r) => refused(r),
         CursorAnswer::At(first) => {
             let bits = octets::octet(body, 4);
-            let after = pass_entries(body, subtype, first);
+            let after = rib_entries::pass_entries(body, subtype, first);
             Rib {
                 outcome: Outcome::Accepted,
                 sequence: octets::be32(body, 0),
@@ -30,6 +32,18 @@ pub fn read_rib(body: &[u8], subtype: u16) -> Rib
             }
         }
     }
+}
+
+// The prefix of a readable head.
+fn prefix_of(body: &[u8], bits: u8) -> [u8; 16]
+    requires { ⌜ (bits ≤ 128) × (5 + prefixSize bits ≤ length (now body)) ⌝ }
+    ensures { λ r. ⌜ r ≡ prefixAt bits (now (body .entry)) ⌝ }
+{
+    let size = rib_head::prefix_size(bits);
+    let end = 5 + size;
+    let mut p = [0u8; 16];
+    octets::put_octets(&mut p, 0, &body[5..end]);
+    rib_head::clear_after(bits, p)
 }
 
 // A refusal, with 0 in every other field.
@@ -45,4 +59,23 @@ fn refused(r: Refusal) -> Rib
         count: 0,
         entries: 0,
     }
+}
+
+// The octets of an entry's attributes.
+pub fn attributes(body: &[u8], e: Entry) -> &[u8]
+    ensures answer { λ r. ⌜ now r ≡ part (now (body .entry)) (e .start) (e .end - e .start) ⌝ }
+{
+    let n = body.len();
+    let start = e.start;
+    let end = e.end;
+    if n <= start {
+        return &body[..0];
+    }
+    if end <= start {
+        return &body[..0];
+    }
+    if n < end {
+        return &body[start..];
+    }
+    &body[start..end]
 }

@@ -1,45 +1,9 @@
 // RIB records of TABLE_DUMP_V2, read (RFC 6396, 4.3.2; RFC 8050, 4). Attributes stay octets of the body.
 mod body;
-mod entries;
-mod head;
-mod prefix;
-mod times;
 
 use answer::Outcome;
-use answer::Refusal;
+pub use body::attributes;
 pub use body::read_rib;
-pub use entries::after_entries;
-pub use entries::attributes;
-pub use entries::entry_at;
-pub use entries::first_entry;
-pub use entries::next_entry;
-pub use head::check_rib;
-pub use head::layout_of;
-pub use prefix::clear_after;
-pub use times::age;
-
-// What a subtype decides: whether it is carried, the most prefix bits, how many octets a path number takes.
-pub struct Layout {
-    pub carried: bool,
-    pub most: u8,
-    pub path: usize,
-}
-
-pub struct Entry {
-    pub peer: u16,
-    pub originated: u32,
-    // 0 where the subtype has none.
-    pub path: u32,
-    // Where the attributes start and where they end, in the body.
-    pub start: usize,
-    pub end: usize,
-}
-
-// Where the next entry starts, and how many entries are left from there on.
-pub struct Cursor {
-    pub at: usize,
-    pub left: u16,
-}
 
 pub struct Rib {
     pub outcome: Outcome,
@@ -51,20 +15,4 @@ pub struct Rib {
     pub count: u16,
     // Where the first entry starts, in the body.
     pub entries: usize,
-}
-
-pub enum EntryAnswer {
-    Read(Entry),
-    Refused(Refusal),
-}
-
-pub enum CursorAnswer {
-    At(Cursor),
-    Refused(Refusal),
-}
-
-pub enum NextAnswer {
-    Entry { entry: Entry, cursor: Cursor },
-    End,
-    Refused(Refusal),
 }

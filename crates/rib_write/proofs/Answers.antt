@@ -8,59 +8,23 @@ use lib.ListN.{length, take, getD}
 use lib.Dec.{leb, ltb, eqb}
 use borrow.Author.Tests.{leb-true, leb-false, lt-ltb, le-ltb, le-leb, lt-leb, eq-eqb, ne-eqb, eqb-false, ltb-true, ltb-false}
 use Rattle.answer.specs.Refusal.{numberOf}
-use Rattle.answer.specs.Writing.{refuse, atFront}
+use Rattle.answer.specs.Writing.{refuse}
 use Rattle.answer.specs.declared.Refusal.{Refusal}
 use Rattle.octets.specs.Octets.{beAt, bytesOf, patch}
-use Rattle.octets.proofs.Stores.{patch-front}
-use Rattle.rib.specs.Layout.{carried, mostBits, pathSize, prefixSize}
-use Rattle.rib.specs.Head.{bitsOf, countAt, declared}
-use Rattle.rib.specs.Entry.{cursorValues, afterOf}
-use Rattle.rib.specs.declared.Cursor.{Cursor}
-use Rattle.rib.specs.declared.CursorAnswer.{CursorAnswer}
-use Rattle.rib.specs.declared.CursorAnswer.the-variants as cursor-answer
+use Rattle.rib_head.specs.Layout.{carried, pathSize, prefixSize}
+use Rattle.rib_head.specs.Head.{bitsOf, countAt, declared}
+use Rattle.rib_entries.specs.Entry.{cursorValues, afterOf}
+use Rattle.rib_entries.specs.declared.Cursor.{Cursor}
+use Rattle.rib_entries.specs.declared.CursorAnswer.{CursorAnswer}
+use Rattle.rib_entries.specs.declared.CursorAnswer.the-variants as cursor-answer
 use Rattle.answer.proofs.Refusals.{number-refusal}
-use Rattle.rib_write.specs.Layout.{headOctets, entryOctets}
-use Rattle.rib_write.specs.Begin.{beginRib}
+use Rattle.rib_write.specs.Layout.{entryOctets}
 use Rattle.rib_write.specs.Add.{unopened, openValues, openOf, unfit, added, addEntry, unpushed, pushEntry}
 use Rattle.rib_write.specs.declared.NewEntry.{NewEntry}
 use Rattle.rib_write.specs.declared.Builder.{Builder}
 use Rattle.rib_write.specs.declared.BuilderAnswer.{BuilderAnswer}
 use Rattle.rib_write.specs.declared.BuilderAnswer.the-variants as builder-answer
-use Rattle.rib_write.proofs.Sizes.{length-head, length-entry}
-
--- beginning a body
-module _ (s : List ℕ) (t sequence bits : ℕ) (prefix : List ℕ) where
-  pub begin-other : carried t ≡ false → refuse 6 s ≡ beginRib s t sequence bits prefix
-  unfolding beginRib
-  begin-other f = rw f
-
-  module _ (f : carried t ≡ true) {most : ℕ} (m : most ≡ mostBits t) where
-    pub begin-large : most < bits → refuse 10 s ≡ beginRib s t sequence bits prefix
-    unfolding beginRib
-    begin-large h = rw (f, lt-ltb (mostBits t) bits (omega arith))
-
-    module _ (h : bits ≤ most) where
-      front : atFront s (headOctets sequence bits prefix 0) ≡ beginRib s t sequence bits prefix
-      unfolding beginRib
-      front = rw (f, le-ltb (mostBits t) bits (omega arith))
-
-      pub begin-full : length s < 7 + (bits + 7) / 8 → refuse 9 s ≡ beginRib s t sequence bits prefix
-      unfolding atFront prefixSize
-      begin-full l =
-          let k : length (headOctets sequence bits prefix 0) ≡ 7 + (bits + 7) / 8 = length-head sequence bits prefix 0 in
-          rw (lt-leb (length (headOctets sequence bits prefix 0)) (length s) (omega arith)) at front
-
-      pub begin-done : 7 + (bits + 7) / 8 ≤ length s → {u : List ℕ} → u ≡ patch s 0 (headOctets sequence bits prefix 0)
-          → record { number = 0; octets = 7 + (bits + 7) / 8; output = u } ≡ beginRib s t sequence bits prefix
-      unfolding atFront prefixSize
-      begin-done l e =
-          let k : length (headOctets sequence bits prefix 0) ≡ 7 + (bits + 7) / 8 = length-head sequence bits prefix 0 in
-          rw (
-            e,
-            patch-front s (headOctets sequence bits prefix 0) (omega arith),
-            ← k,
-          )
-          (rw (le-leb (length (headOctets sequence bits prefix 0)) (length s) (omega arith)) at front)
+use Rattle.rib_write.proofs.Sizes.{length-entry}
 
 -- a builder at the end of a whole body
 module _ (s : List ℕ) (t : ℕ) (a : CursorAnswer) (said : cursorValues a ≡ afterOf s t) where

@@ -11,14 +11,14 @@ use borrow.Author.Tests.{eqb-true, eqb-false, le-ltb, le-leb, eq-eqb}
 use Rattle.answer.specs.Refusal.{numberOf}
 use Rattle.answer.specs.Writing.{refuse}
 use Rattle.answer.specs.declared.Refusal.{Refusal}
-use Rattle.rib.specs.Layout.{pathSize}
-use Rattle.rib.specs.Head.{countAt, declared, entriesAt, checkRib}
-use Rattle.rib.specs.Entry.{passed, placed, afterOf}
-use Rattle.rib.specs.declared.Cursor.{Cursor}
-use Rattle.rib.proofs.Heads.{met-carried, met-within}
+use Rattle.rib_head.specs.Layout.{pathSize}
+use Rattle.rib_head.specs.Head.{countAt, declared, entriesAt, checkRib}
+use Rattle.rib_entries.specs.Entry.{passed, placed, afterOf}
+use Rattle.rib_entries.specs.declared.Cursor.{Cursor}
+use Rattle.rib_head.proofs.Heads.{met-carried, met-within}
 use Rattle.rib_write.specs.Layout.{entryOctets}
 use Rattle.rib_write.specs.Add.{Opening, unopened, openValues, openOf, unfit, added, addEntry, Pushing, unpushed, pushed, pushEntry}
-use Rattle.rib_write.specs.Run.{lengthOnly}
+use Rattle.rib_write.specs.Add.{lengthOnly}
 use Rattle.rib_write.specs.declared.NewEntry.{NewEntry}
 use Rattle.rib_write.specs.declared.Builder.{Builder}
 use Rattle.rib_write.specs.declared.BuilderAnswer.{BuilderAnswer}

@@ -9,9 +9,9 @@ use lib.Dec.{leb, ltb, eqb}
 use Rattle.answer.specs.Refusal.{numberOf}
 use Rattle.answer.specs.Writing.{Writing, refuse}
 use Rattle.octets.specs.Octets.{bytesOf, patch}
-use Rattle.rib.specs.Layout.{carried, pathSize}
-use Rattle.rib.specs.Head.{countAt, declared}
-use Rattle.rib.specs.Entry.{afterOf}
+use Rattle.rib_head.specs.Layout.{carried, pathSize}
+use Rattle.rib_head.specs.Head.{countAt, declared}
+use Rattle.rib_entries.specs.Entry.{afterOf}
 use Rattle.rib_write.specs.Layout.{entryOctets}
 use Rattle.rib_write.specs.declared.NewEntry.{NewEntry}
 use Rattle.rib_write.specs.declared.Builder.{Builder}
@@ -97,3 +97,7 @@ pushEntry s t b e attributes =
       output = added s (b .len) (entryOctets (pathSize t) e attributes) (b .at) (b .count + 1);
     })))
     (unpushed 6 s))
+
+-- a push as a writer's answer: the body's length alone
+abbrev pub lengthOnly : Pushing → Writing
+lengthOnly w = record { number = w .number; octets = w .len; output = w .output }

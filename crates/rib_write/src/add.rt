@@ -5,7 +5,7 @@ ghost use lib.ListN.{length};
 ghost use lib.Dec.{leb};
 ghost use Rattle.answer.specs.Writing.{wrote};
 ghost use Rattle.octets.specs.Octets.{patch, bytesOf};
-ghost use Rattle.rib.specs.Layout.{pathSize};
+ghost use Rattle.rib_head.specs.Layout.{pathSize};
 ghost use Rattle.rib_write.specs.Layout.{entryOctets};
 ghost use Rattle.rib_write.specs.Add.{openValues, openOf, unfit, pushed, pushEntry, addEntry};
 use crate::Builder;
@@ -13,7 +13,7 @@ use crate::BuilderAnswer;
 use crate::NewEntry;
 use answer::Refusal;
 use answer::Written;
-use rib::CursorAnswer;
+use rib_entries::CursorAnswer;
 
 // One more entry in a body that fills the first len octets of the lent output.
 pub fn add_entry(
@@ -41,7 +41,7 @@ pub fn add_entry(
 pub fn open_rib(body: &[u8], subtype: u16) -> BuilderAnswer
     ensures answer { λ r. ⌜ openValues r ≡ openOf (now (body .entry)) subtype ⌝ }
 {
-    match rib::after_entries(body, subtype) {
+    match rib_entries::after_entries(body, subtype) {
         CursorAnswer::Refused(r) => BuilderAnswer::Refused(r),
         CursorAnswer::At(c) => {
             if c.left != 0 {
@@ -80,7 +80,7 @@ pub fn push_entry(
     if !holds_count(len, b.at) {
         return BuilderAnswer::Refused(Refusal::Beyond);
     }
-    let l = rib::layout_of(subtype);
+    let l = rib_head::layout_of(subtype);
     if !l.carried {
         return BuilderAnswer::Refused(Refusal::OtherSubtype);
     }
@@ -120,7 +120,7 @@ fn is_unfit(count: u16, subtype: u16, path: u32, m: usize) -> bool
     if 65535 < m {
         return true;
     }
-    let l = rib::layout_of(subtype);
+    let l = rib_head::layout_of(subtype);
     if l.path != 0 {
         return false;
     }
@@ -132,7 +132,7 @@ fn put_entry(part: &mut [u8], subtype: u16, e: NewEntry, attributes: &[u8])
     requires { ⌜ length (now attributes) ≤ 65535 ⌝ }
     ensures { λ _. ⌜ now (part .exit) ≡ patch (now (part .entry)) 0 (entryOctets (pathSize subtype) e (now (attributes .entry))) ⌝ }
 {
-    let l = rib::layout_of(subtype);
+    let l = rib_head::layout_of(subtype);
     let size = l.path;
     octets::put_be16(part, 0, e.peer);
     octets::put_be32(part, 2, e.originated);
@@ -145,7 +145,7 @@ fn put_entry(part: &mut [u8], subtype: u16, e: NewEntry, attributes: &[u8])
 fn put_path(part: &mut [u8], subtype: u16, at: usize, v: u32)
     ensures { λ _. ⌜ now (part .exit) ≡ patch (now (part .entry)) at (bytesOf (pathSize subtype) v) ⌝ }
 {
-    let l = rib::layout_of(subtype);
+    let l = rib_head::layout_of(subtype);
     if l.path == 0 {
         return;
     }

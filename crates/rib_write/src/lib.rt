@@ -1,12 +1,10 @@
-// RIB bodies, written into lent output: begun with no entry, and given one entry at a time (RFC 6396, 4.3.2; RFC 8050, 4).
+// RIB bodies in lent output, given one entry at a time (RFC 6396, 4.3.4; RFC 8050, 4).
 mod add;
-mod begin;
 
 pub use add::add_entry;
 pub use add::open_rib;
 pub use add::push_entry;
 use answer::Refusal;
-pub use begin::begin_rib;
 
 pub struct NewEntry {
     pub peer: u16,

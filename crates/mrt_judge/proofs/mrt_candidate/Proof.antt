@@ -1,6 +1,6 @@
 use mathlib.Core.Path.{refl}
 use Rattle.walk.specs.Judged.{Candidate}
-use Rattle.judge.specs.Candidate.{candidacy}
+use Rattle.candidate.specs.Candidate.{candidacy}
 use Rattle.mrt_judge.specs.Judged.{candidateValues}
 use Rattle.lent.proofs.Handing.{hands}
 use borrow.Author.Needs.{needs}

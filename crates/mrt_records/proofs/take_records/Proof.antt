@@ -1,14 +1,15 @@
-use Prim.Native.Nat.{_≤_, _-_, _/_}
+use Prim.Native.Nat.{_+_, _≤_, _-_, _/_}
 use mathlib.Core.Path.{_≡_, refl, sym, _∙_, ap}
 use lib.ListN.{length}
 use native.Mathlib.Omega.{arith}
 use borrow.Author.Needs.{needs}
 use Rattle.octets.specs.Octets.{patch}
 use Rattle.octets.proofs.Stores.{length-patch}
+use Rattle.octets.proofs.Parts.{patch-lent}
 use Rattle.lent.specs.Rows.{rowsFrom, rowsOut}
 use Rattle.lent.proofs.Rows.{comesTo, rows-start, rows-turn, rows-full, rows-none}
 use Rattle.mrt_records.specs.Records.{recordAt}
-use Rattle.mrt_records.proofs.Cases.{part-stored, record-found}
+use Rattle.mrt_records.proofs.Cases.{record-found}
 use Rattle.mrt_records.proofs.take_records.Statement.{statement}
 use Rattle.mrt_records.proofs.take_records.Tie as tie
 
@@ -95,8 +96,8 @@ loop-again c =
     let at-test = at-judge .before in
     let at-loop = at-test .before in
     let inv = at-loop .loop .inv in
-    let h : at-loop .loop .at ≤ length (at-loop .loop .out) = omega (arith, inv .3) in
-    let stored = part-stored (at-loop .loop .out) (at-loop .loop .at) _ h (at-put .put-values .ensures ∙ ap (patch _ 0) (at-values .record-values .ensures)) in (
+    let h : at-loop .loop .at + 10 ≤ length (at-loop .loop .out) = omega (arith, at-test .loop-test .taken, inv .0, inv .3) in
+    let stored = patch-lent (at-loop .loop .out) (at-loop .loop .at) (length (at-loop .loop .out)) 10 _ refl (omega arith) h (at-put .put-values .ensures ∙ ap (patch _ 0) (at-values .record-values .ensures)) in (
       omega arith,
       omega arith,
       inv .2,

@@ -1,5 +1,5 @@
 use borrow.Author.Needs.{needs}
-use Rattle.rib.proofs.Heads.{carried-not, carried-so}
+use Rattle.rib_head.proofs.Heads.{carried-not, carried-so}
 use Rattle.mrt_rib_entries.proofs.Cases.{entries-short, entries-many, entries-other, entries-full, entries-taken}
 use Rattle.mrt_rib_entries.proofs.mrt_rib_entries.Statement.{statement}
 use Rattle.mrt_rib_entries.proofs.mrt_rib_entries.Tie as tie

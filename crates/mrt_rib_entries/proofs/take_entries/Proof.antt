@@ -1,14 +1,15 @@
-use Prim.Native.Nat.{_≤_, _-_, _/_}
+use Prim.Native.Nat.{_+_, _≤_, _-_, _/_}
 use mathlib.Core.Path.{_≡_, refl, sym, _∙_, ap}
 use lib.ListN.{length}
 use native.Mathlib.Omega.{arith}
 use borrow.Author.Needs.{needs}
 use Rattle.octets.specs.Octets.{patch}
 use Rattle.octets.proofs.Stores.{length-patch}
+use Rattle.octets.proofs.Parts.{patch-lent}
 use Rattle.lent.specs.Rows.{rowsFrom, rowsOut}
 use Rattle.lent.proofs.Rows.{comesTo, rows-start, rows-turn, rows-full, rows-none}
 use Rattle.mrt_rib_entries.specs.Entries.{entryAt}
-use Rattle.mrt_rib_entries.proofs.Cases.{part-stored, entry-found}
+use Rattle.mrt_rib_entries.proofs.Cases.{entry-found}
 use Rattle.mrt_rib_entries.proofs.take_entries.Statement.{statement}
 use Rattle.mrt_rib_entries.proofs.take_entries.Tie as tie
 
@@ -107,8 +108,8 @@ loop-again c =
     let at-test = at-next .before in
     let at-loop = at-test .before in
     let inv = at-loop .loop .inv in
-    let h : at-loop .loop .place ≤ length (at-loop .loop .out) = omega (arith, inv .0, inv .3) in
-    let stored = part-stored (at-loop .loop .out) (at-loop .loop .place) _ h (at-put .put-values .ensures) in (
+    let h : at-loop .loop .place + 5 ≤ length (at-loop .loop .out) = omega (arith, at-test .loop-test .taken, inv .0, inv .3) in
+    let stored = patch-lent (at-loop .loop .out) (at-loop .loop .place) (length (at-loop .loop .out)) 5 _ refl (omega arith) h (at-put .put-values .ensures) in (
       omega (arith, at-test .loop-test .taken, inv .0),
       omega (arith, inv .1),
       inv .2,

@@ -1,4 +1,4 @@
-use Rattle.peer.specs.Table.{Heading, heading}
+use Rattle.table.specs.Table.{Heading, heading}
 use mathlib.Core.Path.{sym, _∙_, ap}
 use Rattle.judge.proofs.Bodies.{dump-rib, dump-peers}
 use borrow.Author.Needs.{needs}

@@ -1,8 +1,8 @@
 use mathlib.Core.List.{[]}
 use mathlib.Core.Path.{sym, _∙_, ap}
 use Prim.Native.Nat.{ℕ}
-use Rattle.peers.specs.Add.{adding, notAdded}
-use Rattle.peers.specs.declared.AddAnswer.{AddAnswer}
+use Rattle.peers_add.specs.Add.{adding, notAdded}
+use Rattle.peers_add.specs.declared.AddAnswer.{AddAnswer}
 use Rattle.mrt_peers.specs.Add.{addedAs}
 use borrow.Author.Needs.{needs}
 use Rattle.mrt_peers.proofs.add.added_as.Statement.{statement}

@@ -1,4 +1,4 @@
--- `mrt_peers::mrt_add_peer` meets its contract: a walk of its MIR, by hand, of three calls. `peers::add_peer` has the slots for good, and
+-- `mrt_peers::mrt_add_peer` meets its contract: a walk of its MIR, by hand, of three calls. `peers_add::add_peer` has the slots for good, and
 -- says what they hold after it. Assumes nothing.
 use mathlib.Core.Path.{_≡_, refl, ap, subst}
 use Prim.Native.Nat.{ℕ, _<_, _^_}
@@ -42,15 +42,15 @@ use denote.Exit.{yes}
 use Rattle.peer.specs.declared.Peer.{Peer}
 use Rattle.peer.proofs.Peer as T
 use Rattle.peer.proofs.Peer.Laws as T′
-use Rattle.peers.specs.Add.{adding, addPeer}
-use Rattle.peers.specs.declared.AddAnswer.{AddAnswer}
-use Rattle.peers.proofs.Shape.{vals}
-use Rattle.peers.proofs.AddAnswer as B
-use Rattle.peers.proofs.AddAnswer.Laws as B′
-use Rattle.peers.proofs.add_peer as add′
-use Rattle.peers.proofs.add_peer.Symbol as add-def
-use Rattle.peers.proofs.add_peer.Symbol.{name as #add-peer}
-use Rattle.peers.proofs.add_peer.Met as add-thm
+use Rattle.peers_add.specs.Add.{adding, addPeer}
+use Rattle.peers_add.specs.declared.AddAnswer.{AddAnswer}
+use Rattle.peer_slots.proofs.Shape.{vals}
+use Rattle.peers_add.proofs.AddAnswer as B
+use Rattle.peers_add.proofs.AddAnswer.Laws as B′
+use Rattle.peers_add.proofs.add_peer as add′
+use Rattle.peers_add.proofs.add_peer.Symbol as add-def
+use Rattle.peers_add.proofs.add_peer.Symbol.{name as #add-peer}
+use Rattle.peers_add.proofs.add_peer.Met as add-thm
 use Rattle.mrt_peers.specs.Given.{freshOf}
 use Rattle.mrt_peers.specs.Add.{addedAs, addOut}
 use Rattle.mrt_peers.specs.declared.Fresh.{Fresh}
@@ -68,7 +68,7 @@ use Rattle.mrt_peers.proofs.add.added_as as as′
 use Rattle.mrt_peers.proofs.add.added_as.Symbol as as-def
 use Rattle.mrt_peers.proofs.add.added_as.Symbol.{name as #added-as}
 use Rattle.mrt_peers.proofs.add.added_as.Met as as-thm
-use Rattle.mrt_peers.proofs.Calls.{freely, asks, asks-fact}
+use Rattle.peer_slots.proofs.Calls.{freely, asks, asks-fact}
 use Rattle.mrt_peers.proofs.add.mrt_add_peer.Key.{name as #mrt-add-peer}
 use Rattle.mrt_peers.proofs.add.mrt_add_peer as mrt′
 use Rattle.mrt_peers.proofs.add.mrt_add_peer.Statement as stated
@@ -142,7 +142,7 @@ module _ {M : Type 1} (𝓤 : URA M) (H : Heap 𝓤) (A : Atoms 𝓤) (W : Given
   abbrev made : Fresh → Type 0
   made f = f ≡ freshOf count kind id (d .now) asn
 
-  -- ---- the call of `peers::add_peer`
+  -- ---- the call of `peers_add::add_peer`
   abbrev givenA : Fresh → RefT (List Peer) × (ℕ × (Peer × Unit {0}))
   givenA f = (x, (f .count, (f .peer, tt)))
 
@@ -290,7 +290,7 @@ mrt-add-peer-spec 𝓤 H 𝓜 𝓖 𝓡 =
     (add-meets 𝓤 H (𝓖 .A) (givenOf 𝓤 H 𝓜 𝓖) (𝓜 .mem) (𝓡 .run) (tablesOf 𝓤 H 𝓜 (tables 𝓤 H 𝓜 𝓡 code.env))
     (cited 𝓤 H (Freshes 𝓤 H (𝓖 .A) (𝓜 .mem) (𝓡 .run)) 𝓜 𝓡 code.env #fresh-of fresh-def.routine code.calls-mrt-peers·given·fresh-of
     (fresh-thm.met 𝓤 H 𝓜 𝓖 𝓡))
-    (cited 𝓤 H (Adds 𝓤 H (𝓖 .A) (𝓜 .mem) (𝓡 .run)) 𝓜 𝓡 code.env #add-peer add-def.routine code.calls-peers·add-peer
+    (cited 𝓤 H (Adds 𝓤 H (𝓖 .A) (𝓜 .mem) (𝓡 .run)) 𝓜 𝓡 code.env #add-peer add-def.routine code.calls-peers-add·add-peer
     (add-thm.met 𝓤 H 𝓜 𝓖 𝓡))
     (cited 𝓤 H (Ases 𝓤 H (𝓖 .A) (𝓜 .mem) (𝓡 .run)) 𝓜 𝓡 code.env #added-as as-def.routine code.calls-mrt-peers·add·added-as
     (as-thm.met 𝓤 H 𝓜 𝓖 𝓡)))

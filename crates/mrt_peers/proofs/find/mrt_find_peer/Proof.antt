@@ -66,7 +66,7 @@ use Rattle.mrt_peers.proofs.find.found_of as of′
 use Rattle.mrt_peers.proofs.find.found_of.Symbol as of-def
 use Rattle.mrt_peers.proofs.find.found_of.Symbol.{name as #found-of}
 use Rattle.mrt_peers.proofs.find.found_of.Met as of-thm
-use Rattle.mrt_peers.proofs.Calls.{freely, asks-fact}
+use Rattle.peer_slots.proofs.Calls.{freely, asks-fact}
 use Rattle.mrt_peers.proofs.find.mrt_find_peer.Key.{name as #mrt-find-peer}
 use Rattle.mrt_peers.proofs.find.mrt_find_peer as mrt′
 use Rattle.mrt_peers.proofs.find.mrt_find_peer.Statement as stated

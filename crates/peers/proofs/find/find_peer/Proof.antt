@@ -52,7 +52,7 @@ use Rattle.peer.proofs.address_key.Symbol.{name as #address-key}
 use Rattle.peer.proofs.address_key.Met as key-thm
 use Rattle.peers.specs.Find.{finding, lookUp, findPeer}
 use Rattle.peers.specs.declared.FindAnswer.{FindAnswer}
-use Rattle.peers.proofs.Shape.{vals, low}
+use Rattle.peer_slots.proofs.Shape.{vals, low}
 use Rattle.peers.proofs.Slots.{find-is}
 use Rattle.peers.proofs.FindAnswer as F
 use Rattle.peers.proofs.FindAnswer.Laws as F′

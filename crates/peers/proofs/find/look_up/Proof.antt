@@ -55,11 +55,13 @@ use Rattle.peer.specs.declared.Peer.{Peer}
 use Rattle.peer.proofs.Peer as T
 use Rattle.peer.proofs.Peer.Laws as T′
 use Rattle.peers.specs.Find.{Finding, finding, lost, highest, lookUp}
-use Rattle.peers.specs.Steps.{inUse, judged}
+use Rattle.peer_slots.specs.Used.{inUse}
+use Rattle.peers.specs.Steps.{judged}
 use Rattle.peers.specs.declared.FindAnswer.{FindAnswer}
 use Rattle.peers.specs.declared.Search.{Search}
-use Rattle.peers.proofs.Shape.{stride, vals, low, word, sharedSlots}
-use Rattle.peers.proofs.Slots.{used-le, Pending, looking, pending-turn, turn-less, pending-done}
+use Rattle.peer_slots.proofs.Shape.{stride, vals, low, word, sharedSlots}
+use Rattle.peer_slots.proofs.Counts.{used-le}
+use Rattle.peers.proofs.Slots.{Pending, looking, pending-turn, turn-less, pending-done}
 use Rattle.peers.proofs.FindAnswer as F
 use Rattle.peers.proofs.FindAnswer.Laws as F′
 use Rattle.peers.proofs.Search as S

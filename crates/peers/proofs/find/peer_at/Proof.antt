@@ -50,16 +50,17 @@ use Rattle.peer.specs.declared.Peer.{Peer}
 use Rattle.peer.proofs.Peer as T
 use Rattle.peer.proofs.Peer.Laws as T′
 use Rattle.peers.specs.Slots.{Slot, slot, peerOf}
-use Rattle.peers.specs.Steps.{inUse}
+use Rattle.peer_slots.specs.Used.{inUse}
 use Rattle.peers.specs.declared.PeerAnswer.{PeerAnswer}
-use Rattle.peers.proofs.Shape.{stride, vals, low, word, sharedSlots}
-use Rattle.peers.proofs.Slots.{used-le, slot-held, slot-none}
+use Rattle.peer_slots.proofs.Shape.{stride, vals, low, word, sharedSlots}
+use Rattle.peer_slots.proofs.Counts.{used-le}
+use Rattle.peers.proofs.Slots.{slot-held, slot-none}
 use Rattle.peers.proofs.PeerAnswer as R
 use Rattle.peers.proofs.PeerAnswer.Laws as R′
-use Rattle.peers.proofs.step.in_use as use′
-use Rattle.peers.proofs.step.in_use.Symbol as use-def
-use Rattle.peers.proofs.step.in_use.Symbol.{name as #in-use}
-use Rattle.peers.proofs.step.in_use.Met as use-thm
+use Rattle.peer_slots.proofs.in_use as use′
+use Rattle.peer_slots.proofs.in_use.Symbol as use-def
+use Rattle.peer_slots.proofs.in_use.Symbol.{name as #in-use}
+use Rattle.peer_slots.proofs.in_use.Met as use-thm
 use Rattle.peers.proofs.step.held as held′
 use Rattle.peers.proofs.step.held.Symbol as held-def
 use Rattle.peers.proofs.step.held.Symbol.{name as #held}
@@ -320,7 +321,7 @@ peer-at-spec 𝓤 H 𝓜 𝓖 𝓡 =
     entered 𝓤 H (tripleOf 𝓤 H (𝓖 .A) at′.signature (at′.spec 𝓤 H (𝓖 .A) (𝓜 .mem) (𝓡 .run)))
     (tables 𝓤 H 𝓜 𝓡 code.env .C) (tables 𝓤 H 𝓜 𝓡 code.env .Λ) #peer-at code.function (code.unfolded 𝓤 H 𝓜 𝓡)
     (at-meets 𝓤 H (𝓖 .A) (givenOf 𝓤 H 𝓜 𝓖) (𝓜 .mem) (𝓡 .run) (tablesOf 𝓤 H 𝓜 (tables 𝓤 H 𝓜 𝓡 code.env))
-    (cited 𝓤 H (Use 𝓤 H (𝓖 .A) (𝓜 .mem) (𝓡 .run)) 𝓜 𝓡 code.env #in-use use-def.routine code.calls-peers·step·in-use (use-thm.met 𝓤 H 𝓜 𝓖 𝓡))
+    (cited 𝓤 H (Use 𝓤 H (𝓖 .A) (𝓜 .mem) (𝓡 .run)) 𝓜 𝓡 code.env #in-use use-def.routine code.calls-peer-slots·in-use (use-thm.met 𝓤 H 𝓜 𝓖 𝓡))
     (cited 𝓤 H (Held 𝓤 H (𝓖 .A) (𝓜 .mem) (𝓡 .run)) 𝓜 𝓡 code.env #held held-def.routine code.calls-peers·step·held (held-thm.met 𝓤 H 𝓜 𝓖 𝓡))
     (cited 𝓤 H (None 𝓤 H (𝓖 .A) (𝓜 .mem) (𝓡 .run)) 𝓜 𝓡 code.env #not-held none-def.routine code.calls-peers·step·not-held
     (none-thm.met 𝓤 H 𝓜 𝓖 𝓡)))

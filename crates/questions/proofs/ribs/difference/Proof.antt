@@ -1,5 +1,5 @@
 use borrow.Author.Needs.{needs}
-use Rattle.rib.proofs.Difference.{fits}
+use Rattle.rib_head.proofs.Difference.{fits}
 use Rattle.questions.proofs.ribs.difference.Statement.{statement}
 use Rattle.questions.proofs.ribs.difference.Tie as tie
 

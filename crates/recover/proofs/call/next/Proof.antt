@@ -47,7 +47,7 @@ use Rattle.walk.specs.declared.Walk.{Walk}
 use Rattle.walk.proofs.Walk as T
 use Rattle.walk.proofs.Walk.Laws as T′
 use Rattle.judge.specs.Record.{judgeAt}
-use Rattle.judge.specs.Candidate.{candidateAt}
+use Rattle.candidate.specs.Candidate.{candidateAt}
 use Rattle.recover.specs.Answers.{said as says-in-numbers, stepped}
 use Rattle.recover.specs.declared.WalkAnswer.{WalkAnswer}
 use Rattle.recover.specs.declared.Stepped.{Stepped}

@@ -1,4 +1,4 @@
-use Rattle.judge.specs.Candidate.{candidateAt}
+use Rattle.candidate.specs.Candidate.{candidateAt}
 use Rattle.judge.specs.Record.{judgeAt}
 use mathlib.Core.Path.{sym, _∙_, ap}
 use Rattle.recover.specs.Answers.{tried}

@@ -1,9 +1,9 @@
 use Rattle.recover.proofs.Reading.{asked-more, asked-found}
 use Rattle.walk.proofs.Turns.{scanned-nowhere}
-use Rattle.judge.specs.Candidate.{candidateAt}
+use Rattle.candidate.specs.Candidate.{candidateAt}
 use Rattle.judge.specs.Record.{judgeAt}
 use mathlib.Core.Path.{sym, _∙_, ap}
-use Rattle.recover.specs.Answers.{sighted}
+use Rattle.scan.specs.Sight.{sighted}
 use borrow.Author.Needs.{needs}
 use Rattle.recover.proofs.call.search.Statement.{statement}
 use Rattle.recover.proofs.call.search.Tie as tie

@@ -1,4 +1,4 @@
-use Rattle.judge.specs.Candidate.{candidateAt}
+use Rattle.candidate.specs.Candidate.{candidateAt}
 use Rattle.judge.specs.Record.{judgeAt, judged}
 use mathlib.Core.Path.{sym, _∙_, ap}
 use Rattle.walk.proofs.Turns.{step-beyond, step-finished, step-end, step-fit, step-off, step-cut}

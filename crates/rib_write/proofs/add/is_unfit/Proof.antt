@@ -1,5 +1,5 @@
 use borrow.Author.Needs.{needs}
-use Rattle.rib.proofs.Heads.{path-of}
+use Rattle.rib_head.proofs.Heads.{path-of}
 use Rattle.rib_write.proofs.Answers.{unfit-count, unfit-length, unfit-never, unfit-path}
 use Rattle.rib_write.proofs.add.is_unfit.Statement.{statement}
 use Rattle.rib_write.proofs.add.is_unfit.Tie as tie

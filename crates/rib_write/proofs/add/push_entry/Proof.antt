@@ -1,8 +1,8 @@
 use Prim.Native.Nat.{_<_}
 use native.Mathlib.Omega.{arith}
 use borrow.Author.Needs.{needs}
-use Rattle.rib.proofs.Layouts.{path-size-le}
-use Rattle.rib.proofs.Heads.{carried-not, carried-so, path-of}
+use Rattle.rib_head.proofs.Layouts.{path-size-le}
+use Rattle.rib_head.proofs.Heads.{carried-not, carried-so, path-of}
 use Rattle.rib_write.proofs.Answers.{fit-count, count-room, push-beyond, push-uncounted}
 use Rattle.rib_write.proofs.Answers.{push-other, push-unfit, push-full, push-done}
 use Rattle.rib_write.proofs.Written.{part-stored}

@@ -1,7 +1,7 @@
 use native.Mathlib.Omega.{arith}
 use borrow.Author.Needs.{needs}
-use Rattle.rib.proofs.Layouts.{path-size-le}
-use Rattle.rib.proofs.Heads.{path-of}
+use Rattle.rib_head.proofs.Layouts.{path-size-le}
+use Rattle.rib_head.proofs.Heads.{path-of}
 use Rattle.rib_write.proofs.Written.{entry-stored}
 use Rattle.rib_write.proofs.add.put_entry.Statement.{statement}
 use Rattle.rib_write.proofs.add.put_entry.Tie as tie

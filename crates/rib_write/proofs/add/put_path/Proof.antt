@@ -1,6 +1,6 @@
 use borrow.Author.Needs.{needs}
-use Rattle.rib.proofs.Layouts.{path-size}
-use Rattle.rib.proofs.Heads.{path-of}
+use Rattle.rib_head.proofs.Layouts.{path-size}
+use Rattle.rib_head.proofs.Heads.{path-of}
 use Rattle.rib_write.proofs.Written.{path-unwritten, path-written}
 use Rattle.rib_write.proofs.add.put_path.Statement.{statement}
 use Rattle.rib_write.proofs.add.put_path.Tie as tie

@@ -1,0 +1,2 @@
+-- Candidate: the test of the scan.
+pub mod Candidate

@@ -1,0 +1,2 @@
+-- Entries: what the calls return and leave.
+pub mod Entries

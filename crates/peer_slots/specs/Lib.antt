@@ -1,0 +1,2 @@
+-- Used: which slots are in use.
+pub mod Used

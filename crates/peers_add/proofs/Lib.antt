@@ -1,0 +1,4 @@
+-- Steps: what the helpers decide, case by case. Adds: a peer added. Unique: answers that say the same are equal.
+pub mod Steps
+pub mod Adds
+pub mod Unique

@@ -1,0 +1,46 @@
+-- Adding a peer (01, Peer table): a known address gives its id and changes nothing; otherwise the id is the count.
+-- Refusals: 8 for a wrong count, 10 at 65,535 peers, 9 for no slot.
+use Prim.Native.Nat.{ℕ}
+use mathlib.Core.List.{List}
+use mathlib.Core.Bool.{cond}
+use lib.ListN.{length, set}
+use lib.Dec.{leb, eqb}
+use Rattle.answer.specs.Refusal.{numberOf}
+use Rattle.peer.specs.Peer.{stored}
+use Rattle.peer.specs.declared.Peer.{Peer}
+use Rattle.peer_slots.specs.Used.{wrongCount}
+use Rattle.peers.specs.Find.{lookUp}
+use Rattle.peers_add.specs.declared.AddAnswer.{AddAnswer}
+use Rattle.peers_add.specs.declared.AddAnswer.the-variants.{Known, Added, Refused}
+
+-- an answer in numbers: the refusal's number or 0, the id, how many peers were added, and the slots after the call
+pub record Adding : Type 0 where
+  pub number : ℕ
+  pub id : ℕ
+  pub added : ℕ
+  pub slots : List Peer
+
+-- an answer, set out with the slots l that the call leaves
+abbrev pub adding : AddAnswer → List Peer → Adding
+adding (Known id) l = record { number = 0; id = id; added = 0; slots = l }
+adding (Added id) l = record { number = 0; id = id; added = 1; slots = l }
+adding (Refused r) l = record { number = numberOf r; id = 0; added = 0; slots = l }
+
+-- the refusal n, which leaves the slots l
+abbrev pub notAdded : ℕ → List Peer → Adding
+notAdded n l = record { number = n; id = 0; added = 0; slots = l }
+
+-- a peer in the slot after the last one in use, its address looked for nowhere
+unfoldable pub appendPeer : List Peer → ℕ → Peer → Adding
+appendPeer l count p =
+    cond (wrongCount (length l) count) (notAdded 8 l)
+    (cond (leb 65535 count) (notAdded 10 l)
+    (cond (leb (length l) count) (notAdded 9 l)
+    (record { number = 0; id = count; added = 1; slots = set l count (stored p) })))
+
+-- a peer, where its address is not known yet
+unfoldable pub addPeer : List Peer → ℕ → Peer → Adding
+addPeer l count p =
+    cond (eqb (lookUp l count p .number) 0)
+    (record { number = 0; id = lookUp l count p .id; added = 0; slots = l })
+    (appendPeer l count p)

@@ -1,0 +1,56 @@
+// What the function over slots asks, by value.
+ghost use mathlib.Core.Path.{_≡_};
+ghost use mathlib.Core.List.{[]};
+ghost use Rattle.answer.specs.Refusal.{numberOf};
+ghost use Rattle.peers.specs.Find.{finding};
+ghost use Rattle.peers_add.specs.Add.{adding, notAdded};
+ghost use Rattle.peers_add.specs.Steps.{newPlace, placeOf};
+use crate::AddAnswer;
+use crate::Place;
+use answer::Refusal;
+use peers::FindAnswer;
+
+// Where a new peer goes, after its address was looked up.
+pub(crate) fn place(slots: usize, count: usize, found: FindAnswer) -> Place
+    ensures { λ r. ⌜ (adding (r .answer) [], r .at) ≡ placeOf slots count (finding found) ⌝ }
+{
+    match found {
+        FindAnswer::Id(id) => Place {
+            answer: AddAnswer::Known(id),
+            at: slots,
+        },
+        FindAnswer::Refused(_) => place_new(slots, count),
+    }
+}
+
+// Where a peer goes whose address is not known.
+fn place_new(slots: usize, count: usize) -> Place
+    ensures { λ r. ⌜ (adding (r .answer) [], r .at) ≡ newPlace slots count ⌝ }
+{
+    if slots < count {
+        return no_place(Refusal::Beyond, slots);
+    }
+    if 65535 < count {
+        return no_place(Refusal::Beyond, slots);
+    }
+    if count == 65535 {
+        return no_place(Refusal::TooLarge, slots);
+    }
+    if slots == count {
+        return no_place(Refusal::NoRoom, slots);
+    }
+    Place {
+        answer: AddAnswer::Added(count as u16),
+        at: count,
+    }
+}
+
+// A refusal, and no place.
+fn no_place(why: Refusal, slots: usize) -> Place
+    ensures { λ r. ⌜ (adding (r .answer) [] ≡ notAdded (numberOf why) []) × (r .at ≡ slots) ⌝ }
+{
+    Place {
+        answer: AddAnswer::Refused(why),
+        at: slots,
+    }
+}

@@ -1,0 +1,101 @@
+-- A body read into slots: what of it goes there, one turn, and the end.
+use Prim.Native.Nat.{ℕ, zero, suc, _+_, _-_, _<_, _≤_}
+use mathlib.Core.Path.{_≡_, refl, sym, _∙_, ap}
+use mathlib.Core.List.{List}
+use mathlib.Core.Bool.{Bool, true, false}
+use native.Mathlib.Numerals.{add-one}
+use native.Mathlib.Omega.{arith}
+use borrow.Author.Tests.{lt-ltb, le-ltb, ltb-false}
+use lib.ListN.{length, set, getD}
+use lib.Dec.{ltb}
+use Rattle.answer.specs.Refusal.{numberOf}
+use Rattle.answer.specs.declared.Refusal.{Refusal}
+use Rattle.peer.specs.Peer.{peerSize, peerAt, Reading, readPeer}
+use Rattle.table.specs.Table.{Heading, heading, refused, endAt, checkPeers}
+use Rattle.peer.specs.declared.Peer.{Peer}
+use Rattle.table.specs.declared.TableAnswer.{TableAnswer}
+use Rattle.table.specs.declared.TableAnswer.the-variants as B
+use Rattle.table.proofs.Tables.{end-none, end-more, held-within}
+use Rattle.peer.proofs.Records.{read-fits}
+use Rattle.peers_read.specs.Load.{filled, headFor, loadPeers, loading}
+
+-- ---- the head for so many slots
+module _ (s : List ℕ) (slots : ℕ) where
+  pub head-le : headFor s slots .count ≤ slots
+  unfolding headFor
+  head-le = case (ltb slots (checkPeers s .count)) refl
+    where
+      case : (t : Bool) → ltb slots (checkPeers s .count) ≡ t → headFor s slots .count ≤ slots
+      case true e = simp e (omega arith)
+      case false e = simp e (ltb-false slots (checkPeers s .count) e)
+
+  pub head-within : (i : ℕ) → i < headFor s slots .count → endAt s (headFor s slots .first) (i + 1) ≤ length s
+  unfolding headFor
+  head-within i = case (ltb slots (checkPeers s .count)) refl
+    where
+      case : (t : Bool) → ltb slots (checkPeers s .count) ≡ t → i < headFor s slots .count
+          → endAt s (headFor s slots .first) (i + 1) ≤ length s
+      case true e = simp e (λ h. absurd (omega arith))
+      case false e = simp e (held-within s i)
+
+-- ---- what of a body goes into slots
+abbrev Planned : List ℕ → ℕ → Heading → Type 0
+Planned s slots h = (h ≡ headFor s slots) × (h .count ≡ headFor s slots .count) × (h .first ≡ headFor s slots .first)
+
+module _ (s : List ℕ) (slots : ℕ) where
+  planned : {h : Heading} → h ≡ headFor s slots → Planned s slots h
+  planned e = (e, ap (λ (h : Heading). h .count) e, ap (λ (h : Heading). h .first) e)
+
+  head-refused : (n : ℕ) → checkPeers s ≡ refused n → refused n ≡ headFor s slots
+  unfolding headFor
+  head-refused n h = let z : 0 ≤ slots = omega arith in rw h (simp (le-ltb slots 0 z))
+
+  head-few : (h : Heading) → checkPeers s ≡ h → slots < h .count → refused 9 ≡ headFor s slots
+  unfolding headFor
+  head-few h e l = rw e (simp (lt-ltb slots (h .count) l))
+
+  head-whole : (h : Heading) → checkPeers s ≡ h → h .count ≤ slots → h ≡ headFor s slots
+  unfolding headFor
+  head-whole h e l = rw e (simp (le-ltb slots (h .count) l))
+
+  module _ (r : TableAnswer) (checked : heading r ≡ checkPeers s) where
+    pub plan-refused : (why : Refusal) → r ≡ B.Refused why → Planned s slots (refused (numberOf why))
+    plan-refused why e = planned (head-refused (numberOf why) (sym checked ∙ ap heading e))
+
+    module _ (collector name size count first end : ℕ) (e : r ≡ B.Table collector name size count first end) where
+      pub plan-few : slots < count → Planned s slots (refused 9)
+      plan-few h = planned (head-few (heading (B.Table collector name size count first end)) (sym checked ∙ ap heading e) h)
+
+      pub plan-whole : count ≤ slots → Planned s slots (heading (B.Table collector name size count first end))
+      plan-whole h = planned (head-whole (heading (B.Table collector name size count first end)) (sym checked ∙ ap heading e) h)
+
+-- ---- the loop: i peers are in their slots, and the next one starts at p
+module _ (s : List ℕ) (l : List Peer) (first : ℕ) where
+  pub filled-none : l ≡ filled s first l 0
+  unfolding filled
+  filled-none = refl
+
+  filled-more : (i : ℕ) → set (filled s first l i) i (peerAt s (endAt s first i)) ≡ filled s first l (i + 1)
+  unfolding filled
+  filled-more i = rw add-one
+
+  module _ {p : ℕ} (i : ℕ) (at : p ≡ endAt s first i) (inside : endAt s first (i + 1) ≤ length s) where
+    reads : readPeer s (endAt s first i) ≡ record { number = 0; peer = peerAt s (endAt s first i); next = endAt s first (i + 1) }
+    reads = read-fits s (endAt s first i) (rw end-more inside)
+        ∙ ap (λ (k : ℕ). record { number = 0; peer = peerAt s (endAt s first i); next = k }) (end-more s first i)
+
+    pub filled-turn : {t : List Peer} (r : Reading) → r ≡ readPeer s p → t ≡ filled s first l i
+        → (set t i (r .peer) ≡ filled s first l (i + 1)) × (r .next ≡ endAt s first (i + 1))
+    filled-turn {t} r h e =
+        let k : r ≡ record { number = 0; peer = peerAt s (endAt s first i); next = endAt s first (i + 1) } = h ∙ ap (readPeer s) at
+        ∙ reads in
+        (rw (k, e) (filled-more i), ap (λ (x : Reading). x .next) k)
+
+-- ---- the answer and the slots, as one
+pub load-is : (s : List ℕ) (l : List Peer) (r : TableAnswer) {t : List Peer} {first count i : ℕ} → heading r ≡ headFor s (length l)
+    → count ≡ headFor s (length l) .count → first ≡ headFor s (length l) .first
+    → i ≤ count → count ≤ i → t ≡ filled s first l i → loading r t ≡ loadPeers s l
+unfolding loadPeers
+load-is s l r {t} {first} {count} {i} h c f u v e =
+    let j : i ≡ headFor s (length l) .count = (let z : i ≡ count = omega arith in z) ∙ c in
+    rw (h, e, j, f)

@@ -1,0 +1,2 @@
+-- Load: a body read into slots.
+pub mod Load

@@ -1,0 +1,2 @@
+-- Entry: entries by number and by cursor.
+pub mod Entry

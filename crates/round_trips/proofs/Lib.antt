@@ -1,0 +1,12 @@
+-- PeerTables, RibBodies: tables and bodies there and back. HandedOut: what a cursor hands out, from the first entry to the end.
+-- Peers: one peer there and back. Tests: a law of tests. Seams: what stands in a RIB body that is put together. Built: a body under
+-- construction. Runs: entries one after the other. Rebuilt: a body put together from what is read of it.
+pub mod Peers
+pub mod PeerTables
+pub mod HandedOut
+pub mod Tests
+pub mod Seams
+pub mod Built
+pub mod Runs
+pub mod Rebuilt
+pub mod RibBodies

@@ -1,0 +1,2 @@
+-- Scans: where a scan ends.
+pub mod Scans

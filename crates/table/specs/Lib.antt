@@ -1,0 +1,2 @@
+-- Table: the whole body.
+pub mod Table
