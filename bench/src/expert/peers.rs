@@ -67,18 +67,23 @@ fn peer(octets: &[u8]) -> Peer {
     } else {
         address[..4].copy_from_slice(&octets[5..9]);
     }
-    let asn = if kind & 2 != 0 { be32(octets, 5 + size) } else { u32::from(be16(octets, 5 + size)) };
+    // The first two octets of the AS count where there are four: no branch on its size.
+    let high = u32::from(be16(octets, 5 + size)) & 0u32.wrapping_sub(u32::from(kind >> 1 & 1));
+    let asn = high << 16 | u32::from(be16(octets, octets.len() - 2));
     Peer { kind, id: be32(octets, 1), address, asn }
 }
 
-/// The highest id that holds an address. The count is not beyond the slots.
+/// The highest id that holds an address. The count is not beyond the slots. The first four octets, which nearly always
+/// differ, are looked at before the family, which the processor cannot foresee.
 pub fn find(slots: &[Peer], count: usize, ipv6: bool, address: &[u8; 16]) -> Option<usize> {
     let used = slots.get(..count).filter(|_| count <= MOST_PEERS)?;
-    if ipv6 {
-        return used.iter().rposition(|peer| peer.kind & 1 != 0 && peer.address == *address);
-    }
     let four = be32(address, 0);
-    used.iter().rposition(|peer| peer.kind & 1 == 0 && be32(&peer.address, 0) == four)
+    if ipv6 {
+        return used.iter().rposition(|peer| {
+            be32(&peer.address, 0) == four && peer.kind & 1 != 0 && peer.address[4..] == address[4..]
+        });
+    }
+    used.iter().rposition(|peer| be32(&peer.address, 0) == four && peer.kind & 1 == 0)
 }
 
 /// The id of a peer, stored after the last one in use where its address is not known: 8, 10, 9.
@@ -137,9 +142,9 @@ fn put(octets: &mut [u8], peer: &Peer) {
         octets[5..9].copy_from_slice(&peer.address[..4]);
         9
     };
-    if peer.kind & 2 != 0 {
-        octets[asn..asn + 4].copy_from_slice(&peer.asn.to_be_bytes());
-    } else {
-        octets[asn..asn + 2].copy_from_slice(&(peer.asn as u16).to_be_bytes());
-    }
+    // The upper half, or the whole AS where it has two octets, and then the lower half in the last two: no branch on its size.
+    let upper = (peer.asn >> (16 * u32::from(peer.kind >> 1 & 1))) as u16;
+    octets[asn..asn + 2].copy_from_slice(&upper.to_be_bytes());
+    let last = octets.len() - 2;
+    octets[last..].copy_from_slice(&(peer.asn as u16).to_be_bytes());
 }

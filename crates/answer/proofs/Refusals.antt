@@ -1,11 +1,13 @@
--- Laws of refusal numbers.
+-- Laws of refusals' and outcomes' numbers.
 use Prim.Native.Nat.{ℕ}
 use mathlib.Core.Path.{_≡_, refl, sym, _∙_, ap}
 use mathlib.Core.Bool.{false, cond}
 use lib.Dec.{eqb}
 use borrow.Author.Tests.{ne-eqb}
 use native.Mathlib.Omega.{arith}
-use Rattle.answer.specs.Refusal.{numberOf}
+use Rattle.answer.specs.Refusal.{numberOf, outcomeNumber}
+use Rattle.answer.specs.declared.Outcome.{Outcome}
+use Rattle.answer.specs.declared.Outcome.the-variants.{Accepted, Refused}
 use Rattle.answer.specs.declared.Refusal.{Refusal}
 use Rattle.answer.specs.declared.Refusal.the-variants.{TruncatedHeader, UnknownType, ShortLength, TruncatedBody, NotCarried, OtherSubtype, BodyNotMet, Beyond, NoRoom, TooLarge, WindowExhausted}
 
@@ -57,3 +59,10 @@ named-number WindowExhausted = refl
 -- a refusal is known by its number
 pub number-unique : (a b : Refusal) → numberOf a ≡ numberOf b → a ≡ b
 number-unique a b e = sym (named-number a) ∙ ap named e ∙ named-number b
+
+-- an outcome is known by its number
+pub outcome-unique : (a b : Outcome) → outcomeNumber a ≡ outcomeNumber b → a ≡ b
+outcome-unique Accepted Accepted e = refl
+outcome-unique Accepted (Refused r) e = absurd (number-not-zero r (sym e))
+outcome-unique (Refused r) Accepted e = absurd (number-not-zero r e)
+outcome-unique (Refused r) (Refused q) e = ap Refused (number-unique r q e)

@@ -4,8 +4,8 @@ use mathlib.Core.Path.{_≡_, refl, sym, _∙_, ap}
 use mathlib.Core.List.{List, [], _++_, append-assoc, append-nil}
 use native.Mathlib.Nat.{add-zero, le-of-eq}
 use native.Mathlib.Omega.{arith}
-use lib.ListN.{length, getD, take, drop, length-take, length-drop, take-append-drop, drop-of-length-le, replicate}
-use lib.Seq.{take-all, take-nil, length-take-le, take-add, drop-append-le, drop-drop, getD-take, getD-drop}
+use lib.ListN.{length, take, drop, length-take, length-drop, take-append-drop, drop-of-length-le, replicate}
+use lib.Seq.{take-all, take-nil, length-take-le, take-add, drop-append-le, drop-drop}
 use Rattle.octets.specs.Octets.{beAt, bytesOf, patch, part, Octets}
 use Rattle.octets.proofs.Numbers.{be-drop, be-take, bytes-of-be}
 use Rattle.octets.proofs.Stores.{stores, patch-front, patch-over, patch-part, patch-within, length-patch}
@@ -21,10 +21,7 @@ part-rest s at = take-all (length s - at) (drop at s) (le-of-eq (length-drop at 
 pub part-join : (s : List ℕ) (at n m : ℕ) → part s at n ++ part s (at + n) m ≡ part s at (n + m)
 part-join s at n m = sym (take-add n m (drop at s) ∙ ap (λ (l : List ℕ). part s at n ++ take m l) (drop-drop n at s))
 
--- an octet and a number of a part are those of the whole
-pub getD-part : (s : List ℕ) (at n i : ℕ) → i < n → getD (part s at n) i 0 ≡ getD s (at + i) 0
-getD-part s at n i h = getD-take n (drop at s) i 0 h ∙ getD-drop at s i 0
-
+-- a number of a part is that of the whole
 pub be-part : (s : List ℕ) (at n i w : ℕ) → i + w ≤ n → beAt (part s at n) i w ≡ beAt s (at + i) w
 be-part s at n i w h = be-take (drop at s) n i w h ∙ be-drop s at i w
 

@@ -1,17 +1,8 @@
 -- Two answers that say the same are the same answer: the statements of the calls leave no choice.
-use mathlib.Core.Path.{_≡_, refl, sym, ap}
-use Rattle.answer.specs.Refusal.{outcomeNumber}
-use Rattle.answer.specs.declared.Outcome.{Outcome}
-use Rattle.answer.specs.declared.Outcome.the-variants as O
+use mathlib.Core.Path.{_≡_, ap}
 use Rattle.peer.specs.Peer.{Reading, reading}
 use Rattle.peer.specs.declared.PeerRead.{PeerRead}
-use Rattle.answer.proofs.Refusals.{number-not-zero, number-unique}
-
-pub outcome-unique : (a b : Outcome) → outcomeNumber a ≡ outcomeNumber b → a ≡ b
-outcome-unique O.Accepted O.Accepted e = refl
-outcome-unique O.Accepted (O.Refused r) e = absurd (number-not-zero r (sym e))
-outcome-unique (O.Refused r) O.Accepted e = absurd (number-not-zero r e)
-outcome-unique (O.Refused r) (O.Refused q) e = ap O.Refused (number-unique r q e)
+use Rattle.answer.proofs.Refusals.{outcome-unique}
 
 pub reading-unique : (a b : PeerRead) → reading a ≡ reading b → a ≡ b
 reading-unique a b e =

@@ -1,8 +1,8 @@
 -- What the helpers decide, case by case.
 use Prim.Native.Nat.{ℕ, _<_, _≤_}
 use mathlib.Core.Path.{_≡_, sym, _∙_}
-use mathlib.Core.Bool.{Bool, true, false}
-use borrow.Author.Tests.{le-leb, lt-leb}
+use mathlib.Core.Bool.{Bool, true, false, not, and-false}
+use borrow.Author.Tests.{le-leb, lt-leb, not-true, not-false}
 use Rattle.peer.specs.Peer.{sameAddress}
 use Rattle.peer.specs.declared.Peer.{Peer}
 use Rattle.peers.specs.Find.{Finding, found}
@@ -14,10 +14,10 @@ module _ (best : Finding) (i : ℕ) (p key : Peer) where
   unfolding judged
   judge-late h = simp (lt-leb _ _ h)
 
-  pub judge-hit : i ≤ 65535 → {t : Bool} → t ≡ sameAddress p key → t ≡ true → (found i, 0) ≡ judged best i p key
+  pub judge-hit : i ≤ 65535 → {t : Bool} → t ≡ sameAddress p key → not t ≡ false → (found i, 0) ≡ judged best i p key
   unfolding judged
-  judge-hit h s t = simp (le-leb _ _ h, sym s ∙ t)
+  judge-hit h {t} s n = simp (le-leb _ _ h, sym s ∙ not-false t n)
 
-  pub judge-miss : i ≤ 65535 → {t : Bool} → t ≡ sameAddress p key → t ≡ false → (best, i) ≡ judged best i p key
+  pub judge-miss : {t : Bool} → t ≡ sameAddress p key → not t ≡ true → (best, i) ≡ judged best i p key
   unfolding judged
-  judge-miss h s t = simp (le-leb _ _ h, sym s ∙ t)
+  judge-miss {t} s n = simp (sym s ∙ not-true t n, and-false)

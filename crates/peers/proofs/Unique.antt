@@ -1,7 +1,6 @@
 -- Two answers that say the same are the same answer: the statements of the calls leave no choice.
 use mathlib.Core.Path.{_≡_, sym, ap}
-use Rattle.answer.proofs.Refusals.{number-not-zero, number-unique}
-use Rattle.peer.proofs.Unique.{outcome-unique}
+use Rattle.answer.proofs.Refusals.{number-not-zero, number-unique, outcome-unique}
 use Rattle.peers.specs.Slots.{Slot, slot}
 use Rattle.peers.specs.Find.{Finding, finding}
 use Rattle.peers.specs.declared.PeerAnswer.{PeerAnswer}

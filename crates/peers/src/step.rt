@@ -52,14 +52,14 @@ pub(crate) fn begin_search(slots: usize, count: usize) -> Search
 pub(crate) fn judge(best: FindAnswer, i: usize, p: Peer, key: Peer) -> Search
     ensures { λ r. ⌜ (finding (r .best), r .count) ≡ judged (finding best) i p key ⌝ }
 {
+    if !peer::same_address(p, key) {
+        return Search { best, count: i };
+    }
     if 65535 < i {
         return Search { best, count: i };
     }
-    if peer::same_address(p, key) {
-        return Search {
-            best: FindAnswer::Id(i as u16),
-            count: 0,
-        };
+    Search {
+        best: FindAnswer::Id(i as u16),
+        count: 0,
     }
-    Search { best, count: i }
 }
