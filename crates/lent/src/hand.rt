@@ -53,6 +53,6 @@ pub fn sixteen(s: &[u8]) -> [u8; 16]
     ensures { λ r. ⌜ r ≡ sixteenOf (now (s .entry)) ⌝ }
 {
     let mut a = [0u8; 16];
-    octets::put_octets(&mut a, 0, s);
+    copies::put_octets(&mut a, 0, s);
     a
 }

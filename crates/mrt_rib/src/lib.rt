@@ -32,7 +32,7 @@ pub extern "C" fn mrt_read_rib(body: &[u8], subtype: u16, out: &mut [u64], prefi
             ];
             put_values(out, &v);
             let octets = rib.prefix;
-            octets::put_octets(prefix, 0, &octets);
+            copies::put_octets(prefix, 0, &octets);
             0
         }
     }

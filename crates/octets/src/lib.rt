@@ -2,9 +2,8 @@
 // that every call answers; a caller that has tested the length pays for no second test.
 ghost use mathlib.Core.Path.{_≡_};
 ghost use mathlib.Core.List.{[], _∷_};
-ghost use Prim.Native.Nat.{_≤_, _+_};
-ghost use lib.ListN.{getD, length, take};
-ghost use Rattle.octets.specs.Octets.{beAt, bytesOf, part, patch};
+ghost use lib.ListN.{getD};
+ghost use Rattle.octets.specs.Octets.{beAt, bytesOf, patch};
 
 // The octet at an index.
 pub fn octet(s: &[u8], at: usize) -> u8
@@ -69,75 +68,4 @@ pub fn put_be32(out: &mut [u8], at: usize, v: u32)
     }
     put_be16(out, at, (v / 65536) as u16);
     put_be16(out, at + 2, (v % 65536) as u16);
-}
-
-// Copies octets: sixteen at a time where there are so many.
-pub fn put_octets(out: &mut [u8], at: usize, src: &[u8])
-    ensures { λ _. ⌜ now (out .exit) ≡ patch (now (out .entry)) at (now (src .entry)) ⌝ }
-{
-    let n = out.len();
-    if n <= at {
-        return;
-    }
-    let room = n - at;
-    let mut m = src.len();
-    if room < m {
-        m = room;
-    }
-    if m < 16 {
-        put_few(out, at, src, m);
-        return;
-    }
-    put_blocks(out, at, src, m);
-}
-
-// Copies m octets one by one.
-fn put_few(out: &mut [u8], at: usize, src: &[u8], m: usize)
-    requires { ⌜ (at + m ≤ length (now out)) × (m ≤ length (now src)) ⌝ }
-    ensures { λ _. ⌜ now (out .exit) ≡ patch (now (out .entry)) at (take m (now (src .entry))) ⌝ }
-{
-    let mut i = 0;
-    while i < m {
-        out[at + i] = src[i];
-        i += 1;
-    }
-}
-
-// Copies m octets in blocks. The last block is taken from the end, over octets that are stored already.
-fn put_blocks(out: &mut [u8], at: usize, src: &[u8], m: usize)
-    requires { ⌜ (16 ≤ m) × (at + m ≤ length (now out)) × (m ≤ length (now src)) ⌝ }
-    ensures { λ _. ⌜ now (out .exit) ≡ patch (now (out .entry)) at (take m (now (src .entry))) ⌝ }
-{
-    let last = m - 16;
-    let mut i = 0;
-    while i < last {
-        put_block(out, at + i, src, i);
-        i += 16;
-    }
-    put_block(out, at + last, src, last);
-}
-
-// Copies the sixteen octets that stand at an offset.
-fn put_block(out: &mut [u8], to: usize, src: &[u8], at: usize)
-    requires { ⌜ (to + 16 ≤ length (now out)) × (at + 16 ≤ length (now src)) ⌝ }
-    ensures { λ _. ⌜ now (out .exit) ≡ patch (now (out .entry)) to (part (now (src .entry)) at 16) ⌝ }
-{
-    let end = to + 16;
-    let stop = at + 16;
-    put_sixteen(&mut out[to..end], &src[at..stop]);
-}
-
-// Copies the first sixteen octets. All are read before one is stored, so that they are one load and one store.
-fn put_sixteen(out: &mut [u8], src: &[u8])
-    requires { ⌜ 16 ≤ length (now src) ⌝ }
-    ensures { λ _. ⌜ now (out .exit) ≡ patch (now (out .entry)) 0 (take 16 (now (src .entry))) ⌝ }
-{
-    let a = be32(src, 0);
-    let b = be32(src, 4);
-    let c = be32(src, 8);
-    let d = be32(src, 12);
-    put_be32(out, 0, a);
-    put_be32(out, 4, b);
-    put_be32(out, 8, c);
-    put_be32(out, 12, d);
 }

@@ -104,7 +104,7 @@ fn put_head(out: &mut [u8], collector: u32, view: &[u8], count: u16)
     let name = view.len();
     octets::put_be32(out, 0, collector);
     octets::put_be16(out, 4, name as u16);
-    octets::put_octets(out, 6, view);
+    copies::put_octets(out, 6, view);
     octets::put_be16(out, 6 + name, count);
 }
 

@@ -86,7 +86,7 @@ pub(crate) fn read(a: &[u8], x: &[u8], out: &mut [u8]) -> usize {
 // a: the output before. b: the address. x: the offset, type, id, AS.
 pub(crate) fn write(a: &[u8], b: &[u8], x: &[u8], out: &mut [u8]) -> usize {
     let mut addr = [0u8; 16];
-    octets::put_octets(&mut addr, 0, b);
+    copies::put_octets(&mut addr, 0, b);
     let p = Peer {
         kind: octets::octet(x, 15),
         id: octets::be32(x, 20),

@@ -32,7 +32,7 @@ pub(crate) fn refused(out: &mut [u8], at: usize, why: Refusal) -> usize {
 }
 
 pub(crate) fn sixteen(out: &mut [u8], at: usize, v: &[u8; 16]) -> usize {
-    octets::put_octets(out, at, v);
+    copies::put_octets(out, at, v);
     sum(at, 16)
 }
 
@@ -40,7 +40,7 @@ pub(crate) fn sixteen(out: &mut [u8], at: usize, v: &[u8; 16]) -> usize {
 pub(crate) fn lend(out: &mut [u8], s: &[u8]) -> usize
     ensures { λ r. ⌜ Counts r (now (out .exit)) ⌝ }
 {
-    octets::put_octets(out, 0, s);
+    copies::put_octets(out, 0, s);
     if out.len() < s.len() {
         return out.len();
     }

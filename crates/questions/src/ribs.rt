@@ -108,7 +108,7 @@ fn difference(more: u32, less: u32) -> i64 {
 // a: the output before. b: the prefix. x: subtype, sequence, prefix bits.
 pub(crate) fn begin(a: &[u8], b: &[u8], x: &[u8], out: &mut [u8]) -> usize {
     let mut prefix = [0u8; 16];
-    octets::put_octets(&mut prefix, 0, b);
+    copies::put_octets(&mut prefix, 0, b);
     let subtype = octets::be16(x, 6);
     let sequence = octets::be32(x, 12);
     let bits = octets::octet(x, 23);

@@ -86,7 +86,7 @@ fn open(name: &[u8], ending: &[u8]) -> i32 {
     }
     let end = length + size;
     let view: &mut [u8] = &mut path;
-    octets::put_octets(view, 0, name);
-    octets::put_octets(view, length, ending);
+    copies::put_octets(view, 0, name);
+    copies::put_octets(view, length, ending);
     os::open_read(&path[..end])
 }

@@ -42,7 +42,7 @@ fn prefix_of(body: &[u8], bits: u8) -> [u8; 16]
     let size = rib_head::prefix_size(bits);
     let end = 5 + size;
     let mut p = [0u8; 16];
-    octets::put_octets(&mut p, 0, &body[5..end]);
+    copies::put_octets(&mut p, 0, &body[5..end]);
     rib_head::clear_after(bits, p)
 }
 

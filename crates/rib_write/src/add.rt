@@ -138,7 +138,7 @@ fn put_entry(part: &mut [u8], subtype: u16, e: NewEntry, attributes: &[u8])
     octets::put_be32(part, 2, e.originated);
     put_path(part, subtype, 6, e.path);
     octets::put_be16(part, 6 + size, attributes.len() as u16);
-    octets::put_octets(part, 8 + size, attributes);
+    copies::put_octets(part, 8 + size, attributes);
 }
 
 // The path number, where the subtype has one.

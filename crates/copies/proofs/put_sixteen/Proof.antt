@@ -1,7 +1,7 @@
 use Rattle.octets.proofs.Parts.{copy-sixteen}
 use borrow.Author.Needs.{needs}
-use Rattle.octets.proofs.put_sixteen.Statement.{statement}
-use Rattle.octets.proofs.put_sixteen.Tie as tie
+use Rattle.copies.proofs.put_sixteen.Statement.{statement}
+use Rattle.copies.proofs.put_sixteen.Tie as tie
 
 be32-requires : tie.Need-be32-requires
 be32-requires c κs = search needs

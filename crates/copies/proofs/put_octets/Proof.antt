@@ -4,10 +4,10 @@ use native.Mathlib.Nat.{le-of-eq}
 use lib.ListN.{length}
 use mathlib.Core.Logic.{⊎-elim}
 use native.Mathlib.Omega.{arith}
 use Rattle.octets.proofs.Stores.{patch-beyond, copy-done}
 use borrow.Author.Needs.{needs}
-use Rattle.octets.proofs.put_octets.Statement.{statement}
-use Rattle.octets.proofs.put_octets.Tie as tie
+use Rattle.copies.proofs.put_octets.Statement.{statement}
+use Rattle.copies.proofs.put_octets.Tie as tie
 
 -- as many octets as there are and have room
 shorter : (c : tie.Joined2) → c .if2 .m ≡ min (length (c .before .before .before .before .args .out .now) - c .before .before .before .before .args .at) (length (c .before .before .before .before .args .src .now))

@@ -2,10 +2,10 @@ use Prim.Native.Nat.{_≤_, _-_}
 use mathlib.Core.Path.{_≡_, refl, _∙_, ap}
 use native.Mathlib.Omega.{arith}
 use lib.ListN.{length, take}
 use Rattle.octets.specs.Octets.{patch}
 use Rattle.octets.proofs.Stores.{copy-turn, copy-all, length-patch}
-use Rattle.octets.proofs.put_few.Statement.{statement}
-use Rattle.octets.proofs.put_few.Tie as tie
+use Rattle.copies.proofs.put_few.Statement.{statement}
+use Rattle.copies.proofs.put_few.Tie as tie
 
 abbrev Inv-loop : tie.InvT-loop
 Inv-loop out₀ at src m i₀ out i = (i ≤ m) × (out ≡ patch out₀ at (take i src))

@@ -1,7 +1,7 @@
 use Rattle.octets.proofs.Parts.{copy-block}
 use borrow.Author.Needs.{needs}
-use Rattle.octets.proofs.put_block.Statement.{statement}
-use Rattle.octets.proofs.put_block.Tie as tie
+use Rattle.copies.proofs.put_block.Statement.{statement}
+use Rattle.copies.proofs.put_block.Tie as tie
 
 add-end : tie.Need-add-end
 add-end c = search needs

@@ -1,0 +1,35 @@
+use Prim.Native.Nat.{_+_, _≤_}
+use lib.ListN.{length}
+use native.Mathlib.Omega.{arith}
+use Rattle.octets.proofs.Parts.{copy-join}
+use borrow.Author.Needs.{needs}
+use Rattle.copies.proofs.put_four.Statement.{statement}
+use Rattle.copies.proofs.put_four.Tie as tie
+
+put-two-requires : tie.Need-put-two-requires
+put-two-requires c κs = search needs
+
+add-put-two : tie.Need-add-put-two
+add-put-two c = search needs
+
+add-put-two-2 : tie.Need-add-put-two-2
+add-put-two-2 c = search needs
+
+put-two-requires-2 : tie.Need-put-two-requires-2
+put-two-requires-2 c κs = search needs
+
+same-length : tie.Need-same-length
+same-length c = search needs
+
+returns : tie.Need-returns
+returns c =
+    let at-second = c .before .before in
+    let at-first = at-second .before .before .before .before in
+    let start = at-first .before .before .before .before in
+    let h : start .args .at + 32 ≤ length (start .args .src .now) = omega (arith, start .pre .1) in
+    copy-join _ _ _ _ 32 32 h (at-first .put-two .ensures) (at-second .put-two2 .ensures)
+
+pub put-four-spec : {M : Type 1} → statement M
+put-four-spec =
+    tie.close
+    (tie.spec put-two-requires add-put-two add-put-two-2 put-two-requires-2 same-length returns)

@@ -1,0 +1,115 @@
+// Octets copied from one lent place to another. Where the output ends, octets are dropped, so that every call answers.
+ghost use mathlib.Core.Path.{_≡_};
+ghost use Prim.Native.Nat.{_+_, _≤_};
+ghost use lib.ListN.{length, take};
+ghost use Rattle.octets.specs.Octets.{part, patch};
+
+// Copies octets: sixteen at a time where there are so many.
+pub fn put_octets(out: &mut [u8], at: usize, src: &[u8])
+    ensures { λ _. ⌜ now (out .exit) ≡ patch (now (out .entry)) at (now (src .entry)) ⌝ }
+{
+    let n = out.len();
+    if n <= at {
+        return;
+    }
+    let room = n - at;
+    let mut m = src.len();
+    if room < m {
+        m = room;
+    }
+    if m < 16 {
+        put_few(out, at, src, m);
+        return;
+    }
+    put_blocks(out, at, src, m);
+}
+
+// Copies m octets one by one.
+fn put_few(out: &mut [u8], at: usize, src: &[u8], m: usize)
+    requires { ⌜ (at + m ≤ length (now out)) × (m ≤ length (now src)) ⌝ }
+    ensures { λ _. ⌜ now (out .exit) ≡ patch (now (out .entry)) at (take m (now (src .entry))) ⌝ }
+{
+    let mut i = 0;
+    while i < m {
+        out[at + i] = src[i];
+        i += 1;
+    }
+}
+
+// Copies m octets in blocks, the last of them taken from the end, over octets that are stored already. Up to 128 octets there is no
+// loop, whose turns the processor cannot foresee.
+fn put_blocks(out: &mut [u8], at: usize, src: &[u8], m: usize)
+    requires { ⌜ (16 ≤ m) × (at + m ≤ length (now out)) × (m ≤ length (now src)) ⌝ }
+    ensures { λ _. ⌜ now (out .exit) ≡ patch (now (out .entry)) at (take m (now (src .entry))) ⌝ }
+{
+    if m <= 32 {
+        let last = m - 16;
+        put_block(out, at, src, 0);
+        put_block(out, at + last, src, last);
+        return;
+    }
+    if m <= 64 {
+        let last = m - 32;
+        put_two(out, at, src, 0);
+        put_two(out, at + last, src, last);
+        return;
+    }
+    put_many(out, at, src, m);
+}
+
+// The same for more than 64 octets, by 64.
+fn put_many(out: &mut [u8], at: usize, src: &[u8], m: usize)
+    requires { ⌜ (64 ≤ m) × (at + m ≤ length (now out)) × (m ≤ length (now src)) ⌝ }
+    ensures { λ _. ⌜ now (out .exit) ≡ patch (now (out .entry)) at (take m (now (src .entry))) ⌝ }
+{
+    let last = m - 64;
+    let mut i = 0;
+    while i < last {
+        put_four(out, at + i, src, i);
+        i += 64;
+    }
+    put_four(out, at + last, src, last);
+}
+
+// Copies four blocks that stand at an offset.
+fn put_four(out: &mut [u8], to: usize, src: &[u8], at: usize)
+    requires { ⌜ (to + 64 ≤ length (now out)) × (at + 64 ≤ length (now src)) ⌝ }
+    ensures { λ _. ⌜ now (out .exit) ≡ patch (now (out .entry)) to (part (now (src .entry)) at 64) ⌝ }
+{
+    put_two(out, to, src, at);
+    put_two(out, to + 32, src, at + 32);
+}
+
+// Copies two blocks that stand at an offset.
+fn put_two(out: &mut [u8], to: usize, src: &[u8], at: usize)
+    requires { ⌜ (to + 32 ≤ length (now out)) × (at + 32 ≤ length (now src)) ⌝ }
+    ensures { λ _. ⌜ now (out .exit) ≡ patch (now (out .entry)) to (part (now (src .entry)) at 32) ⌝ }
+{
+    put_block(out, to, src, at);
+    put_block(out, to + 16, src, at + 16);
+}
+
+// Copies the sixteen octets that stand at an offset.
+fn put_block(out: &mut [u8], to: usize, src: &[u8], at: usize)
+    requires { ⌜ (to + 16 ≤ length (now out)) × (at + 16 ≤ length (now src)) ⌝ }
+    ensures { λ _. ⌜ now (out .exit) ≡ patch (now (out .entry)) to (part (now (src .entry)) at 16) ⌝ }
+{
+    let end = to + 16;
+    let stop = at + 16;
+    put_sixteen(&mut out[to..end], &src[at..stop]);
+}
+
+// Copies the first sixteen octets. All are read before one is stored, so that they are one load and one store.
+fn put_sixteen(out: &mut [u8], src: &[u8])
+    requires { ⌜ 16 ≤ length (now src) ⌝ }
+    ensures { λ _. ⌜ now (out .exit) ≡ patch (now (out .entry)) 0 (take 16 (now (src .entry))) ⌝ }
+{
+    let a = octets::be32(src, 0);
+    let b = octets::be32(src, 4);
+    let c = octets::be32(src, 8);
+    let d = octets::be32(src, 12);
+    octets::put_be32(out, 0, a);
+    octets::put_be32(out, 4, b);
+    octets::put_be32(out, 8, c);
+    octets::put_be32(out, 12, d);
+}
