@@ -19,9 +19,9 @@ impl Row {
         Row { name, what, times: Vec::new() }
     }
 
-    /// The crate is left out.
+    /// The crate and the wall are left out.
     fn add(&mut self, size: usize, work: Work) {
-        self.times.push((size, measure(Work { by_crate: None, ..work }, ROUNDS).ours));
+        self.times.push((size, measure(Work { by_crate: None, walled: None, ..work }, ROUNDS).ours));
     }
 
     fn print(&self) {

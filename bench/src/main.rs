@@ -32,6 +32,7 @@ fn print(line: &Line) {
         milliseconds(line.ours),
         by_crate.map_or("-".to_string(), |timed| shown(&timed.ratio)),
         shown(&line.expert.ratio),
+        line.walled.as_ref().map_or("-".to_string(), |timed| shown(&timed.ratio)),
     ];
     println!("| {} |", cells.join(" | "));
 }
@@ -67,8 +68,8 @@ fn main() {
     if chosen.0.first().is_some_and(|word| word == "growth") {
         return growth::print();
     }
-    println!("| work | crate ms | expert ms | ours ms | crate/ours | expert/ours |");
-    println!("|---|---|---|---|---|---|");
+    println!("| work | crate ms | expert ms | ours ms | crate/ours | expert/ours | expert behind calls/ours |");
+    println!("|---|---|---|---|---|---|---|");
     chosen.walk("walk, 64 MiB of updates", || inputs::updates(64 * MIB), MIB);
     chosen.walk("walk, a RIB of 73 MiB", || inputs::big("bird2012_big_rib46.mrt.xz"), MIB);
     let torn = || inputs::updates(4 * MIB).map(|stream| inputs::torn(&stream));

@@ -5,11 +5,13 @@ use std::time::{Duration, Instant};
 /// One side of a work. It answers the same number each time that it runs, and the same as the other sides.
 pub type Side<'a> = Box<dyn FnMut() -> u64 + 'a>;
 
-/// The same work done by each side. The crate lacks some.
+/// The same work done by each side. The crate lacks some; the expert's calls stand behind a wall like ours where a work has many
+/// calls.
 pub struct Work<'a> {
     pub name: String,
     pub by_crate: Option<Side<'a>>,
     pub expert: Side<'a>,
+    pub walled: Option<Side<'a>>,
     pub ours: Side<'a>,
 }
 
@@ -31,6 +33,7 @@ pub struct Line {
     pub ours: Duration,
     pub by_crate: Option<Timed>,
     pub expert: Timed,
+    pub walled: Option<Timed>,
 }
 
 /// Runs a side once.
@@ -53,25 +56,29 @@ fn timed(theirs: &[Duration], ours: &[Duration]) -> Timed {
     Timed { best: seconds(theirs), ratio }
 }
 
-/// Runs the sides in turn, so many rounds after one that is not counted. The first answer of each is checked before
-/// anything is timed.
+/// Runs the sides in turn, so many rounds after one that is not counted. Every answer is checked.
 pub fn measure(mut work: Work, rounds: usize) -> Line {
     let expected = (work.ours)();
-    let (mut ours, mut expert, mut by_crate) = (Vec::new(), Vec::new(), Vec::new());
-    time(&mut work.expert, expected, "the expert's Rust", &work.name);
-    if let Some(side) = &mut work.by_crate {
-        time(side, expected, "the crate", &work.name);
-    }
-    for _ in 0..rounds {
+    let (mut ours, mut expert, mut by_crate, mut walled) = (Vec::new(), Vec::new(), Vec::new(), Vec::new());
+    for round in 0..=rounds {
         ours.push(time(&mut work.ours, expected, "a later run", &work.name));
         expert.push(time(&mut work.expert, expected, "the expert's Rust", &work.name));
         if let Some(side) = &mut work.by_crate {
             by_crate.push(time(side, expected, "the crate", &work.name));
         }
+        if let Some(side) = &mut work.walled {
+            walled.push(time(side, expected, "the expert's Rust behind calls", &work.name));
+        }
+        if round == 0 {
+            for times in [&mut ours, &mut expert, &mut by_crate, &mut walled] {
+                times.clear();
+            }
+        }
     }
     Line {
         ours: ours.iter().min().copied().unwrap_or_default(),
         by_crate: work.by_crate.is_some().then(|| timed(&by_crate, &ours)),
+        walled: work.walled.is_some().then(|| timed(&walled, &ours)),
         expert: timed(&expert, &ours),
         name: work.name,
     }

@@ -5,6 +5,7 @@ pub mod peers;
 pub mod record;
 pub mod rib;
 pub mod walk;
+pub mod walled;
 
 /// The number in two octets.
 #[inline(always)]

@@ -46,6 +46,16 @@ impl<'a> Entries<'a> {
         let (left, at) = head(layout, body)?;
         Some(Entries { layout, body, at, left })
     }
+
+    /// From a cursor on.
+    #[inline(always)]
+    pub fn at(subtype: u16, body: &'a [u8], at: usize, left: u16) -> Option<Self> {
+        Some(Entries { layout: layout(subtype)?, body, at, left })
+    }
+
+    pub fn cursor(&self) -> [u64; 2] {
+        [self.at as u64, u64::from(self.left)]
+    }
 }
 
 impl Iterator for Entries<'_> {
@@ -102,6 +112,16 @@ pub fn begin(out: &mut [u8], subtype: u16, sequence: u32, bits: u8, prefix: &[u8
 }
 
 impl Builder {
+    /// A builder from its three numbers: where it ends, where its count stands, the count.
+    #[inline(always)]
+    pub fn at(subtype: u16, [len, at, count]: [u64; 3]) -> Option<Self> {
+        Some(Builder { layout: layout(subtype)?, len: len as usize, at: at as usize, count: count as u16 })
+    }
+
+    pub fn state(&self) -> [u64; 3] {
+        [self.len as u64, self.at as u64, u64::from(self.count)]
+    }
+
     /// One more entry in the output that holds the body: 8, 10, 9.
     #[inline(always)]
     pub fn push(&mut self, out: &mut [u8], entry: &NewEntry) -> Result<(), u8> {

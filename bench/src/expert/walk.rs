@@ -29,6 +29,16 @@ impl<'a> Walk<'a> {
         Walk { stream, at: 0, finished: false, window, asked: asked.max(1) }
     }
 
+    /// A walk that goes on.
+    pub fn at(stream: &'a [u8], at: usize, finished: bool, window: usize, asked: u8) -> Self {
+        Walk { at, finished, ..Walk::new(stream, window, asked) }
+    }
+
+    /// The position, and 1 where the walk is finished.
+    pub fn place(&self) -> [u64; 2] {
+        [self.at as u64, u64::from(self.finished)]
+    }
+
     #[inline(always)]
     pub fn next(&mut self) -> Answer {
         let start = self.at;

@@ -45,6 +45,7 @@ impl Table {
             name: name.to_string(),
             by_crate: Some(Box::new(move || u64::from(parse(&octets).id_peer_map.is_empty()))),
             expert: Box::new(move || expert::peers::load(&self.body, &mut theirs).map_or(1, |_| 0)),
+            walled: None,
             ours: Box::new(move || u64::from(exports::load_peers(&self.body, &mut ours))),
         }
     }
@@ -68,6 +69,7 @@ impl Table {
             name: name.to_string(),
             by_crate: Some(Box::new(by_crate)),
             expert: Box::new(expert),
+            walled: None,
             ours: Box::new(ours),
         }
     }
@@ -93,6 +95,7 @@ impl Table {
             expert: Box::new(move || {
                 expert::peers::write(&mut theirs, COLLECTOR, VIEW, slots, count).unwrap_or(0) as u64
             }),
+            walled: None,
             ours: Box::new(move || exports::write_peers(&mut ours, COLLECTOR, VIEW, slots, count).octets),
         }
     }
@@ -112,7 +115,7 @@ impl Table {
                 });
             ids.map(|found| u64::from(found.id)).sum()
         };
-        Work { name: name.to_string(), by_crate: None, expert: Box::new(expert), ours: Box::new(ours) }
+        Work { name: name.to_string(), by_crate: None, expert: Box::new(expert), walled: None, ours: Box::new(ours) }
     }
 }
 

@@ -1,6 +1,7 @@
 //! One large RIB record: all its entries read, and the same body built.
 
 use crate::expert::rib::{begin, Builder, Entries};
+use crate::expert::walled;
 use crate::measure::Work;
 use bgpkit_part::models::{RibAfiEntries, TableDumpV2Type};
 use bgpkit_part::parser::mrt::messages::table_dump_v2::rib_afi_entries::parse_rib_afi_entries;
@@ -52,6 +53,7 @@ impl Rib {
             name: name.to_string(),
             by_crate: Some(Box::new(move || read_by_crate(&octets))),
             expert: Box::new(move || read_by_expert(&self.body)),
+            walled: Some(Box::new(move || read_walled(&self.body))),
             ours: Box::new(move || read_by_ours(&self.body)),
         }
     }
@@ -63,6 +65,7 @@ impl Rib {
             name: name.to_string(),
             by_crate: None,
             expert: Box::new(move || read_by_expert(&self.body)),
+            walled: None,
             ours: Box::new(move || numbered_by_ours(&self.body, count)),
         }
     }
@@ -80,8 +83,8 @@ impl Rib {
 
     /// The body from its entries. The crate's are held ready; only its writing is timed.
     pub fn build(&self, name: &str) -> Work<'_> {
-        let [mut ours, mut theirs] = [vec![0; self.body.len()], vec![0; self.body.len()]];
-        let [by_ours, by_expert] = [self.entries(), self.entries()];
+        let [mut ours, mut theirs, mut walled] = [(); 3].map(|()| vec![0; self.body.len()]);
+        let [by_ours, by_expert, by_walled] = [(); 3].map(|()| self.entries());
         build_by_ours(&mut ours, &by_ours);
         assert_eq!(ours, self.body, "{name}: the octets of the proved calls");
         assert_eq!(self.by_crate.encode().as_deref().ok(), Some(&self.body[..]), "{name}: the crate's octets");
@@ -90,6 +93,7 @@ impl Rib {
             name: name.to_string(),
             by_crate: Some(Box::new(octets)),
             expert: Box::new(move || build_by_expert(&mut theirs, &by_expert)),
+            walled: Some(Box::new(move || build_walled(&mut walled, &by_walled))),
             ours: Box::new(move || build_by_ours(&mut ours, &by_ours)),
         }
     }
@@ -102,6 +106,7 @@ impl Rib {
             name: name.to_string(),
             by_crate: None,
             expert: Box::new(move || build_by_expert(&mut theirs, &by_expert)),
+            walled: None,
             ours: Box::new(move || add_by_ours(&mut ours, &by_ours)),
         }
     }
@@ -114,11 +119,12 @@ fn parse(body: &Bytes) -> RibAfiEntries {
 /// How many entries are asked for by one call.
 const ROWS: usize = 16;
 
-fn read_by_ours(body: &[u8]) -> u64 {
+#[inline(always)]
+fn read_by_calls(body: &[u8], entries: impl Fn(&mut [u64; 2], &mut [[u64; 5]]) -> usize) -> u64 {
     let (_, mut cursor) = exports::rib_first(body, SUBTYPE);
     let (mut rows, mut sum) = ([[0; 5]; ROWS], 0u64);
     loop {
-        let count = exports::rib_entries(body, SUBTYPE, &mut cursor, &mut rows).count as usize;
+        let count = entries(&mut cursor, &mut rows);
         for &[peer, originated, _, start, end] in &rows[..count] {
             sum = sum.wrapping_add(said(peer, originated, start, end - start));
         }
@@ -126,6 +132,15 @@ fn read_by_ours(body: &[u8]) -> u64 {
             return sum;
         }
     }
+}
+
+fn read_by_ours(body: &[u8]) -> u64 {
+    read_by_calls(body, |cursor, rows| exports::rib_entries(body, SUBTYPE, cursor, rows).count as usize)
+}
+
+/// The expert's call behind the same wall.
+fn read_walled(body: &[u8]) -> u64 {
+    read_by_calls(body, |cursor, rows| walled::rib_entries(body, SUBTYPE, cursor, rows))
 }
 
 fn numbered_by_ours(body: &[u8], count: usize) -> u64 {
@@ -166,6 +181,14 @@ fn build_by_ours(out: &mut [u8], entries: &[NewEntry]) -> u64 {
     let (_, mut builder) = exports::open_rib(&out[..head], SUBTYPE);
     let refusals: u32 = entries.iter().map(|entry| exports::push_entry(out, SUBTYPE, &mut builder, entry)).sum();
     builder[0] - u64::from(refusals)
+}
+
+/// The expert's call behind the same wall.
+fn build_walled(out: &mut [u8], entries: &[NewEntry]) -> u64 {
+    let builder: Builder = begin(out, SUBTYPE, SEQUENCE, BITS, &PREFIX).expect("the head fits");
+    let mut state = builder.state();
+    let refusals: u32 = entries.iter().map(|entry| walled::push_entry(out, SUBTYPE, &mut state, entry)).sum();
+    state[0] - u64::from(refusals)
 }
 
 fn add_by_ours(out: &mut [u8], entries: &[NewEntry]) -> u64 {

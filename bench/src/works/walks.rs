@@ -1,7 +1,7 @@
 //! Walks and scans over whole streams.
 
-use crate::expert::record;
 use crate::expert::walk::{Answer, Walk};
+use crate::expert::{record, walled};
 use crate::measure::Work;
 use bgpkit_part::models::CommonHeader;
 use bgpkit_part::parser::iters::recovery::{RecoveringRecordIterator, RecoveryConfig, RecoveryEvent};
@@ -60,6 +60,7 @@ pub fn walk<'a>(name: &str, stream: &'a [u8], window: usize, asked: u8) -> Work<
         name: name.to_string(),
         by_crate: Some(Box::new(move || by_crate(stream, window, asked).sum)),
         expert: Box::new(move || expert(stream, window, asked).sum),
+        walled: Some(Box::new(move || walled(stream, window, asked).sum)),
         ours: Box::new(move || ours(stream, window, asked).sum),
     }
 }
@@ -68,18 +69,23 @@ pub fn walk<'a>(name: &str, stream: &'a [u8], window: usize, asked: u8) -> Work<
 const ROWS: usize = 16;
 
 /// Records by the call that hands out many; what is no record, by the walk's own call.
-fn ours(stream: &[u8], window: usize, asked: u8) -> Said {
+#[inline(always)]
+fn by_calls(
+    stream: &[u8],
+    records: impl Fn(&[u8], &mut [u64; 2], &mut [[u64; 10]]) -> usize,
+    next: impl Fn(&[u8], &mut [u64; 2], &mut [u64; 10]),
+) -> Said {
     let mut said = Said::default();
     let (mut walk, mut rows, mut out) = ([0; 2], [[0; 10]; ROWS], [0; 10]);
     loop {
-        let count = exports::records(stream, &mut walk, &mut rows).count as usize;
+        let count = records(stream, &mut walk, &mut rows);
         for &[_, start, timestamp, kind, subtype, _, _, micros, body, end] in &rows[..count] {
             said.record(Record { start, body, end, timestamp, kind, subtype, micros });
         }
         if count == ROWS {
             continue;
         }
-        exports::next(stream, &mut walk, window, asked, &mut out);
+        next(stream, &mut walk, &mut out);
         let [answer, start, end, refusal, evidence, confirmed, ..] = out;
         match answer {
             2 => {
@@ -93,6 +99,18 @@ fn ours(stream: &[u8], window: usize, asked: u8) -> Said {
             }
         }
     }
+}
+
+fn ours(stream: &[u8], window: usize, asked: u8) -> Said {
+    let records = |stream: &[u8], walk: &mut _, rows: &mut [_]| exports::records(stream, walk, rows).count as usize;
+    by_calls(stream, records, |stream, walk, out| {
+        exports::next(stream, walk, window, asked, out);
+    })
+}
+
+/// The expert's calls behind the same wall.
+fn walled(stream: &[u8], window: usize, asked: u8) -> Said {
+    by_calls(stream, walled::records, |stream, walk, out| walled::next(stream, walk, window, asked, out))
 }
 
 fn expert(stream: &[u8], window: usize, asked: u8) -> Said {

@@ -36,57 +36,18 @@ fn put_few(out: &mut [u8], at: usize, src: &[u8], m: usize)
     }
 }
 
-// Copies m octets in blocks, the last of them taken from the end, over octets that are stored already. Up to 128 octets there is no
-// loop, whose turns the processor cannot foresee.
+// Copies m octets in blocks. The last block is taken from the end, over octets that are stored already.
 fn put_blocks(out: &mut [u8], at: usize, src: &[u8], m: usize)
     requires { ⌜ (16 ≤ m) × (at + m ≤ length (now out)) × (m ≤ length (now src)) ⌝ }
     ensures { λ _. ⌜ now (out .exit) ≡ patch (now (out .entry)) at (take m (now (src .entry))) ⌝ }
 {
-    if m <= 32 {
-        let last = m - 16;
-        put_block(out, at, src, 0);
-        put_block(out, at + last, src, last);
-        return;
-    }
-    if m <= 64 {
-        let last = m - 32;
-        put_two(out, at, src, 0);
-        put_two(out, at + last, src, last);
-        return;
-    }
-    put_many(out, at, src, m);
-}
-
-// The same for more than 64 octets, by 64.
-fn put_many(out: &mut [u8], at: usize, src: &[u8], m: usize)
-    requires { ⌜ (64 ≤ m) × (at + m ≤ length (now out)) × (m ≤ length (now src)) ⌝ }
-    ensures { λ _. ⌜ now (out .exit) ≡ patch (now (out .entry)) at (take m (now (src .entry))) ⌝ }
-{
-    let last = m - 64;
+    let last = m - 16;
     let mut i = 0;
     while i < last {
-        put_four(out, at + i, src, i);
-        i += 64;
+        put_block(out, at + i, src, i);
+        i += 16;
     }
-    put_four(out, at + last, src, last);
-}
-
-// Copies four blocks that stand at an offset.
-fn put_four(out: &mut [u8], to: usize, src: &[u8], at: usize)
-    requires { ⌜ (to + 64 ≤ length (now out)) × (at + 64 ≤ length (now src)) ⌝ }
-    ensures { λ _. ⌜ now (out .exit) ≡ patch (now (out .entry)) to (part (now (src .entry)) at 64) ⌝ }
-{
-    put_two(out, to, src, at);
-    put_two(out, to + 32, src, at + 32);
-}
-
-// Copies two blocks that stand at an offset.
-fn put_two(out: &mut [u8], to: usize, src: &[u8], at: usize)
-    requires { ⌜ (to + 32 ≤ length (now out)) × (at + 32 ≤ length (now src)) ⌝ }
-    ensures { λ _. ⌜ now (out .exit) ≡ patch (now (out .entry)) to (part (now (src .entry)) at 32) ⌝ }
-{
-    put_block(out, to, src, at);
-    put_block(out, to + 16, src, at + 16);
+    put_block(out, at + last, src, last);
 }
 
 // Copies the sixteen octets that stand at an offset.

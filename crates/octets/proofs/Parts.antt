@@ -75,11 +75,6 @@ copy-block s l to at h k q =
     let e : take 16 (part l at (at + 16 - at)) ≡ part l at 16 = ap (λ (m : ℕ). take 16 (part l at m)) z ∙ take-all 16 (part l at 16) (le-of-eq n) in
     patch-lent s to (to + 16) 16 (part l at 16) n h (omega arith) (q ∙ ap (patch (part s to (to + 16 - to)) 0) e)
 
--- the part of n octets at an offset, and then the m after them
-pub copy-join : (s l : List ℕ) (to at n m : ℕ) {t u : List ℕ} → at + n ≤ length l → t ≡ patch s to (part l at n)
-    → u ≡ patch t (to + n) (part l (at + n) m) → u ≡ patch s to (part l at (n + m))
-copy-join s l to at n m h p q = stores s to n (part l at n) (part l (at + n) m) (length-part l at n h) p q ∙ ap (patch s to) (part-join l at n m)
-
 -- the last n of m octets, over some that are stored already
 pub copy-last : (s l : List ℕ) (at i m n : ℕ) {t u : List ℕ} → n ≤ m → m - n ≤ i → i ≤ m → m ≤ length l → at + m ≤ length s
     → t ≡ patch s at (take i l)

@@ -1,76 +1,69 @@
+use Prim.Native.Nat.{_≤_, _-_}
+use mathlib.Core.Path.{_≡_, refl, _∙_, ap}
 use native.Mathlib.Omega.{arith}
-use Rattle.octets.proofs.Parts.{copy-last}
-use borrow.Author.Needs.{needs}
+use lib.ListN.{length, take}
+use Rattle.octets.specs.Octets.{patch}
+use Rattle.octets.proofs.Stores.{length-patch}
+use Rattle.octets.proofs.Parts.{copy-part, copy-last}
 use Rattle.copies.proofs.put_blocks.Statement.{statement}
 use Rattle.copies.proofs.put_blocks.Tie as tie
 
-sub-last : tie.Need-sub-last
-sub-last c = search needs
+abbrev Inv-loop : tie.InvT-loop
+Inv-loop out₀ at src m last i₀ out i = (i ≤ m) × (out ≡ patch out₀ at (take i src))
 
-put-block-requires : tie.Need-put-block-requires
-put-block-requires c κs = search needs
+abbrev μ-loop : tie.MeasureT-loop
+μ-loop out₀ at src m last i₀ out i = last - i
 
-add-put-block : tie.Need-add-put-block
-add-put-block c = search needs
+sub-last : tie.Need-sub-last Inv-loop μ-loop
+sub-last c = omega arith
 
-put-block-requires-2 : tie.Need-put-block-requires-2
-put-block-requires-2 c κs = search needs
+loop-holds : tie.Need-loop-holds Inv-loop μ-loop
+unfolding patch
+loop-holds c = (omega arith, refl)
 
-same-length : tie.Need-same-length
-same-length c = search needs
+add-put-block : tie.Need-add-put-block Inv-loop μ-loop
+add-put-block c = omega arith
 
-returns : tie.Need-returns
+put-block-requires : tie.Need-put-block-requires Inv-loop μ-loop
+put-block-requires c κs = (omega (arith, ap length (c .before .before .loop .inv .1) ∙ length-patch _ _ _), omega arith)
+
+add-i : tie.Need-add-i Inv-loop μ-loop
+add-i c = omega arith
+
+loop-less : tie.Need-loop-less Inv-loop μ-loop
+loop-less c = omega arith
+
+loop-again : tie.Need-loop-again Inv-loop μ-loop
+loop-again c = (omega arith, copy-part _ _ _ _ 16 (omega arith) (c .before .before .before .before .before .loop .inv .1) (c .before .before .put-block .ensures))
+
+add-put-block-2 : tie.Need-add-put-block-2 Inv-loop μ-loop
+add-put-block-2 c = omega arith
+
+put-block-requires-2 : tie.Need-put-block-requires-2 Inv-loop μ-loop
+put-block-requires-2 c κs = (omega (arith, ap length (c .before .before .loop .inv .1) ∙ length-patch _ _ _), omega arith)
+
+same-length : tie.Need-same-length Inv-loop μ-loop
+same-length c = ap length (c .before .before .put-block2 .ensures) ∙ length-patch _ _ _ ∙ ap length (c .before .before .before .before .before .loop .inv .1) ∙ length-patch _ _ _
+
+returns : tie.Need-returns Inv-loop μ-loop
 returns c =
-    let at-second = c .before .before in
-    let at-first = at-second .before .before .before .before in
-    copy-last _ _ _ 16 _ 16 (omega arith) (omega arith) (omega arith) (omega arith) (omega arith) (at-first .put-block .ensures) (at-second .put-block2 .ensures)
-
-sub-last-2 : tie.Need-sub-last-2
-sub-last-2 c = search needs
-
-put-two-requires : tie.Need-put-two-requires
-put-two-requires c κs = search needs
-
-add-put-two : tie.Need-add-put-two
-add-put-two c = search needs
-
-put-two-requires-2 : tie.Need-put-two-requires-2
-put-two-requires-2 c κs = search needs
-
-same-length-2 : tie.Need-same-length-2
-same-length-2 c = search needs
-
-returns-2 : tie.Need-returns-2
-returns-2 c =
-    let at-second = c .before .before in
-    let at-first = at-second .before .before .before .before in
-    copy-last _ _ _ 32 _ 32 (omega arith) (omega arith) (omega arith) (omega arith) (omega arith) (at-first .put-two .ensures) (at-second .put-two2 .ensures)
-
-put-many-requires : tie.Need-put-many-requires
-put-many-requires c κs = search needs
-
-same-length-3 : tie.Need-same-length-3
-same-length-3 c = search needs
-
-returns-3 : tie.Need-returns-3
-returns-3 c = search needs
+    let start = c .before .before .before .before .before .before .before .before in
+    copy-last _ _ _ _ _ 16 (start .pre .0) (c .before .before .before .before .loop-test .left) (c .before .before .before .before .before .loop .inv .0) (start .pre .2) (start .pre .1) (c .before .before .before .before .before .loop .inv .1) (c .before .before .put-block2 .ensures)
 
 pub put-blocks-spec : {M : Type 1} → statement M
 put-blocks-spec =
     tie.close
     (tie.spec
+    Inv-loop
+    μ-loop
     sub-last
-    put-block-requires
+    loop-holds
     add-put-block
+    put-block-requires
+    add-i
+    loop-less
+    loop-again
+    add-put-block-2
     put-block-requires-2
     same-length
-    returns
-    sub-last-2
-    put-two-requires
-    add-put-two
-    put-two-requires-2
-    same-length-2
-    returns-2
-    put-many-requires
-    same-length-3
-    returns-3)
+    returns)
