@@ -3,6 +3,8 @@ ghost use mathlib.Core.Path.{_≡_};
 ghost use Rattle.answer.specs.Refusal.{numberOf};
 ghost use Rattle.octets.specs.Octets.{patch};
 ghost use Rattle.lent.specs.Export.{exported, mark, sixteenOf};
+ghost use Rattle.lent.specs.Rows.{noneHanded};
+use crate::Handed;
 use answer::Refusal;
 
 // The values at the front of the lent places, as far as there are places.
@@ -55,4 +57,14 @@ pub fn sixteen(s: &[u8]) -> [u8; 16]
     let mut a = [0u8; 16];
     copies::put_octets(&mut a, 0, s);
     a
+}
+
+// No row, with a refusal's number, or 0 where there is none to hand out.
+pub fn none_handed(number: u32) -> Handed
+    ensures { λ r. ⌜ r ≡ noneHanded number ⌝ }
+{
+    Handed {
+        count: 0,
+        refusal: number,
+    }
 }

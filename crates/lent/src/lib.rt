@@ -7,6 +7,7 @@ mod writer;
 
 pub use hand::hand_out;
 pub use hand::mark_of;
+pub use hand::none_handed;
 pub use hand::put_values;
 pub use hand::refusal;
 pub use hand::sixteen;

@@ -3,7 +3,7 @@
 ghost use mathlib.Core.Path.{_≡_};
 ghost use Prim.Native.Nat.{_/_};
 ghost use lib.ListN.{length};
-ghost use Rattle.lent.specs.Rows.{noneHanded, rowsFrom, rowsOut};
+ghost use Rattle.lent.specs.Rows.{rowsFrom, rowsOut};
 ghost use Rattle.mrt_records.specs.Records.{recordAt, recordsOut};
 use judge::Verdict;
 use lent::Handed;
@@ -21,21 +21,21 @@ pub extern "C" fn mrt_records(s: &[u8], walk: &mut [u64], out: &mut [u64]) -> Ha
     ensures answer { λ r. ⌜ (now (walk .exit), (now (out .exit), r)) ≡ recordsOut (now (s .entry)) (now (walk .entry)) (now (out .entry)) ⌝ }
 {
     if walk.len() < 2 {
-        return refuse(8);
+        return lent::none_handed(8);
     }
     let position = walk[0] as usize;
     let finished = walk[1];
     if 1 < finished {
-        return refuse(8);
+        return lent::none_handed(8);
     }
     if s.len() < position {
-        return refuse(8);
+        return lent::none_handed(8);
     }
     if out.len() < 10 {
-        return refuse(9);
+        return lent::none_handed(9);
     }
     if finished == 1 {
-        return refuse(0);
+        return lent::none_handed(0);
     }
     let taken = take_records(s, position, out);
     walk[0] = taken.next as u64;
@@ -72,14 +72,4 @@ fn take_records(s: &[u8], from: usize, out: &mut [u64]) -> Taken
         }
     }
     Taken { count, next: p }
-}
-
-// No record, with a refusal's number or 0.
-fn refuse(number: u32) -> Handed
-    ensures { λ r. ⌜ r ≡ noneHanded number ⌝ }
-{
-    Handed {
-        count: 0,
-        refusal: number,
-    }
 }

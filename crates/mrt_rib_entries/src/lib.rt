@@ -3,7 +3,7 @@
 ghost use mathlib.Core.Path.{_≡_};
 ghost use Prim.Native.Nat.{_/_};
 ghost use lib.ListN.{length};
-ghost use Rattle.lent.specs.Rows.{noneHanded, rowsFrom, rowsOut};
+ghost use Rattle.lent.specs.Rows.{rowsFrom, rowsOut};
 ghost use Rattle.mrt_rib_entries.specs.Entries.{entriesOut, entryAt};
 use lent::Handed;
 use rib_entries::Cursor;
@@ -26,19 +26,19 @@ pub extern "C" fn mrt_rib_entries(
     ensures answer { λ r. ⌜ (now (cursor .exit), (now (out .exit), r)) ≡ entriesOut (now (body .entry)) subtype (now (cursor .entry)) (now (out .entry)) ⌝ }
 {
     if cursor.len() < 2 {
-        return refuse(8);
+        return lent::none_handed(8);
     }
     let at = cursor[0] as usize;
     let left = cursor[1];
     if 65535 < left {
-        return refuse(8);
+        return lent::none_handed(8);
     }
     let l = rib_head::layout_of(subtype);
     if !l.carried {
-        return refuse(6);
+        return lent::none_handed(6);
     }
     if out.len() < 5 {
-        return refuse(9);
+        return lent::none_handed(9);
     }
     let taken = take_entries(body, subtype, at, left as u16, out);
     let next = taken.next;
@@ -78,14 +78,4 @@ fn take_entries(body: &[u8], subtype: u16, at: usize, left: u16, out: &mut [u64]
         }
     }
     Taken { count, next: c }
-}
-
-// No entry, with a refusal's number.
-fn refuse(number: u32) -> Handed
-    ensures { λ r. ⌜ r ≡ noneHanded number ⌝ }
-{
-    Handed {
-        count: 0,
-        refusal: number,
-    }
 }

@@ -4,11 +4,11 @@ use Rattle.mrt_rib_entries.proofs.Cases.{entries-short, entries-many, e
 use Rattle.mrt_rib_entries.proofs.mrt_rib_entries.Statement.{statement}
 use Rattle.mrt_rib_entries.proofs.mrt_rib_entries.Tie as tie
 
-refuse-requires : tie.Need-refuse-requires
-refuse-requires c κs = search needs
+none-handed-requires : tie.Need-none-handed-requires
+none-handed-requires c κs = search needs
 
 returns : tie.Need-returns
-returns c = entries-short _ _ _ _ (c .refuse .ensures) (c .before .if1 .taken)
+returns c = entries-short _ _ _ _ (c .none-handed .ensures) (c .before .if1 .taken)
 
 slice-read-at : tie.Need-slice-read-at
 slice-read-at c = search needs
@@ -16,20 +16,20 @@ slice-read-at c = search needs
 slice-read-left : tie.Need-slice-read-left
 slice-read-left c = search needs
 
-refuse-requires-2 : tie.Need-refuse-requires-2
-refuse-requires-2 c κs = search needs
+none-handed-requires-2 : tie.Need-none-handed-requires-2
+none-handed-requires-2 c κs = search needs
 
 returns-2 : tie.Need-returns-2
 returns-2 c =
     let at-if2 = c .before in
     let at-if1 = at-if2 .before .before .before in
-    entries-many _ _ _ _ (at-if1 .if1 .left) (c .refuse2 .ensures) (at-if2 .if2 .taken)
+    entries-many _ _ _ _ (at-if1 .if1 .left) (c .none-handed2 .ensures) (at-if2 .if2 .taken)
 
 layout-of-requires : tie.Need-layout-of-requires
 layout-of-requires c κs = search needs
 
-refuse-requires-3 : tie.Need-refuse-requires-3
-refuse-requires-3 c κs = search needs
+none-handed-requires-3 : tie.Need-none-handed-requires-3
+none-handed-requires-3 c κs = search needs
 
 returns-3 : tie.Need-returns-3
 returns-3 c =
@@ -37,11 +37,11 @@ returns-3 c =
     let at-layout-of = at-if3 .before .before in
     let at-if2 = at-layout-of .before in
     let at-if1 = at-if2 .before .before .before in
-    entries-other _ _ _ _ (at-if1 .if1 .left) (at-if2 .if2 .left) (c .refuse3 .ensures)
+    entries-other _ _ _ _ (at-if1 .if1 .left) (at-if2 .if2 .left) (c .none-handed3 .ensures)
     (carried-not _ (at-layout-of .layout-of .ensures) (at-if3 .if3 .taken))
 
-refuse-requires-4 : tie.Need-refuse-requires-4
-refuse-requires-4 c κs = search needs
+none-handed-requires-4 : tie.Need-none-handed-requires-4
+none-handed-requires-4 c κs = search needs
 
 returns-4 : tie.Need-returns-4
 returns-4 c =
@@ -51,7 +51,7 @@ returns-4 c =
     let at-if2 = at-layout-of .before in
     let at-if1 = at-if2 .before .before .before in
     entries-full _ _ _ _ (at-if1 .if1 .left) (at-if2 .if2 .left)
-    (carried-so _ (at-layout-of .layout-of .ensures) (at-if3 .if3 .left)) (c .refuse4 .ensures) (at-if4 .if4 .taken)
+    (carried-so _ (at-layout-of .layout-of .ensures) (at-if3 .if3 .left)) (c .none-handed4 .ensures) (at-if4 .if4 .taken)
 
 cast-take-entries : tie.Need-cast-take-entries
 cast-take-entries c = search needs
@@ -89,16 +89,16 @@ pub mrt-rib-entries-spec : {M : Type 1} → statement M
 mrt-rib-entries-spec =
     tie.close
     (tie.spec
-    refuse-requires
+    none-handed-requires
     returns
     slice-read-at
     slice-read-left
-    refuse-requires-2
+    none-handed-requires-2
     returns-2
     layout-of-requires
-    refuse-requires-3
+    none-handed-requires-3
     returns-3
-    refuse-requires-4
+    none-handed-requires-4
     returns-4
     cast-take-entries
     take-entries-requires
