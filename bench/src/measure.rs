@@ -1,4 +1,4 @@
-//! Times of three sides over the same work, taken in turn in one process.
+//! Times of the sides over the same work, taken in turn in one process.
 
 use std::time::{Duration, Instant};
 
@@ -56,30 +56,37 @@ fn timed(theirs: &[Duration], ours: &[Duration]) -> Timed {
     Timed { best: seconds(theirs), ratio }
 }
 
-/// Runs the sides in turn, so many rounds after one that is not counted. Every answer is checked.
-pub fn measure(mut work: Work, rounds: usize) -> Line {
-    let expected = (work.ours)();
-    let (mut ours, mut expert, mut by_crate, mut walled) = (Vec::new(), Vec::new(), Vec::new(), Vec::new());
+/// Runs the sides in turn, so many rounds after one that is not counted, forth and back: who runs after the crate, which leaves
+/// the caches full of its own, is not always the same. Every answer is checked.
+pub fn measure(work: Work, rounds: usize) -> Line {
+    let Work { name, mut ours, expert, walled, by_crate } = work;
+    let expected = ours();
+    let mut sides = [
+        ("a later run", Some(ours)),
+        ("the expert's Rust", Some(expert)),
+        ("the expert's Rust behind calls", walled),
+        ("the crate", by_crate),
+    ];
+    let mut times: [Vec<Duration>; 4] = Default::default();
     for round in 0..=rounds {
-        ours.push(time(&mut work.ours, expected, "a later run", &work.name));
-        expert.push(time(&mut work.expert, expected, "the expert's Rust", &work.name));
-        if let Some(side) = &mut work.by_crate {
-            by_crate.push(time(side, expected, "the crate", &work.name));
-        }
-        if let Some(side) = &mut work.walled {
-            walled.push(time(side, expected, "the expert's Rust behind calls", &work.name));
-        }
-        if round == 0 {
-            for times in [&mut ours, &mut expert, &mut by_crate, &mut walled] {
-                times.clear();
+        for place in 0..sides.len() {
+            let place = if round % 2 == 0 { place } else { sides.len() - 1 - place };
+            let (who, side) = &mut sides[place];
+            if let Some(side) = side {
+                let taken = time(side, expected, who, &name);
+                if round > 0 {
+                    times[place].push(taken);
+                }
             }
         }
     }
+    let [ours, expert, walled, by_crate] = times;
+    let of = |theirs: Vec<Duration>| (!theirs.is_empty()).then(|| timed(&theirs, &ours));
     Line {
-        ours: ours.iter().min().copied().unwrap_or_default(),
-        by_crate: work.by_crate.is_some().then(|| timed(&by_crate, &ours)),
-        walled: work.walled.is_some().then(|| timed(&walled, &ours)),
+        by_crate: of(by_crate),
+        walled: of(walled),
         expert: timed(&expert, &ours),
-        name: work.name,
+        ours: ours.iter().min().copied().unwrap_or_default(),
+        name,
     }
 }

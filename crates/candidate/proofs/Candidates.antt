@@ -7,28 +7,21 @@ use native.Mathlib.Omega.{arith}
 use lib.ListN.{length, drop, getD}
 use lib.Dec.{leb, ltb, eqb}
 use borrow.Author.Tests.{lt-leb, le-leb, lt-ltb, le-ltb, leb-true, leb-false, eq-eqb, ne-eqb, eqb-true, eqb-false}
-use Rattle.octets.specs.Octets.{beAt, part}
+use Rattle.octets.specs.Octets.{beAt}
 use Rattle.octets.proofs.Numbers.{be-drop, be-halves, be-one}
 use Rattle.rules.specs.Ask.{Ask, done, _>>=_, over, past}
 use Rattle.rules.proofs.Asked.{over-bind, over-past}
-use Rattle.header.specs.Kind.{size}
-use Rattle.header.specs.Read.{Heading, refused, accepted, header}
+use Rattle.header.specs.Read.{Heading, refused, accepted, header, headerAt}
 use Rattle.header.specs.Frame.{Framing, framed, frame}
 use Rattle.header.proofs.Reading.{header-kind, header-stored}
-use Rattle.header.proofs.Framing.{framed-head}
+use Rattle.header.proofs.Framing.{read-within}
 use Rattle.checks.specs.Legacy.{legacy}
 use Rattle.checks.specs.Bgp4mp.{asSize, stateChange}
 use Rattle.walk.specs.Judged.{Judged, fit, off, cut, Candidate, stands, fails}
 use Rattle.walk.proofs.Sound.{Sound}
-use Rattle.judge.specs.Body.{check}
-use Rattle.judge.specs.Record.{verdict, judge, judgeAt, judged}
-use Rattle.candidate.specs.Candidate.{family, evidence, plausible, standing, takenUp, headed, candidate, candidateAt}
-use Rattle.answer.specs.declared.Refusal.{Refusal}
-use Rattle.header.specs.declared.CommonHeader.{CommonHeader}
-use Rattle.header.specs.declared.WireLength.{WireLength}
-use Rattle.judge.specs.declared.Verdict.{Verdict}
-use Rattle.judge.specs.declared.Verdict.the-variants.{Fit, Off, Cut}
-use Rattle.judge.proofs.Soundness.{judged-number, judge-left, inside}
+use Rattle.judge.specs.Record.{verdict, judge, judgeAt}
+use Rattle.candidate.specs.Candidate.{family, evidence, plausible, standing, headed, candidate, candidateAt}
+use Rattle.judge.proofs.Soundness.{judge-left, inside}
 
 pub family-rest : (k : ℕ) → (k ≡ 5 → ⊥) → (k ≡ 16 → ⊥) → (k ≡ 17 → ⊥) → 0 ≡ family k
 unfolding family
@@ -56,25 +49,20 @@ module _ (k u : ℕ) where
       by-tests false true = omega arith
       by-tests false false = omega arith
 
--- a verdict as a candidate, by its cases
-module _ (v : Verdict) where
-  pub taken-cut : {r : Refusal} → v ≡ Cut r → fails ≡ takenUp (judged v)
-  unfolding takenUp
-  taken-cut e = rw e
+-- a judged record as a candidate, by its cases
+module _ {j : Judged} where
+  pub standing-cut : {n : ℕ} → cut n ≡ j → fails ≡ standing j
+  unfolding standing
+  standing-cut e = rw (← e)
 
-  pub taken-off : {r : Refusal} {end : ℕ} → v ≡ Off r end → fails ≡ takenUp (judged v)
-  unfolding takenUp
-  taken-off e = rw e
+  pub standing-off : {n end : ℕ} → off n end ≡ j → fails ≡ standing j
+  unfolding standing
+  standing-off e = rw (← e)
 
-  module _ {h : CommonHeader} {w : WireLength} {body end : ℕ} (e : v ≡ Fit h w body end) where
-    pub taken-implausible : plausible (h .kind) (h .subtype) (h .length .0) (h .micros) ≡ false → fails ≡ takenUp (judged v)
-    unfolding takenUp
-    taken-implausible q = rw (e, q)
-
-    pub taken-fit : plausible (h .kind) (h .subtype) (h .length .0) (h .micros) ≡ true → {f x : ℕ} → f ≡ family (h .kind)
-        → x ≡ evidence (h .kind) (h .subtype) → stands f x end ≡ takenUp (judged v)
-    unfolding takenUp
-    taken-fit y p q = rw (e, y, p, q)
+  pub standing-fit : {f : Framing} → fit f ≡ j → {g x : ℕ} → g ≡ family (f .head .kind) → x ≡ evidence (f .head .kind) (f .head .subtype)
+      → stands g x (f .end) ≡ standing j
+  unfolding standing
+  standing-fit e p q = rw (← e, p, q)
 
 positive : (n : ℕ) → (n ≡ 0 → ⊥) → 0 < n
 positive n h = omega arith
@@ -125,31 +113,6 @@ candidate-over s at =
         ≡ cond t (standing (over s (verdict (over s (framed at (over s header)))))) fails
     by-test true = over-bind s _ (framed at (over s header) >>= verdict) ∙ ap standing (over-bind s verdict (framed at (over s header)))
     by-test false = refl
-
--- a record that passes has the frame, and so the header, that stand there
-verdict-fit : (s : List ℕ) (g f : Framing) → over s (verdict g) ≡ fit f → f ≡ g
-unfolding verdict over
-verdict-fit s g f = by-number (eqb (g .head .number) 0) refl
-  where
-    -- what the body check has found
-    found : ℕ
-    found = check (g .head .kind) (g .head .subtype) (g .head .stored) (part s (size (g .head .kind)) (g .head .stored))
-
-    by-check : (n : ℕ) (t : Bool) → cond t (fit g) (off n (g .end)) ≡ fit f → f ≡ g
-    by-check n true q = cc
-    by-check n false q = absurd (let y : _≡_ {A = ℕ} 0 1 = cc in omega arith)
-
-    by-number : (t : Bool) → eqb (g .head .number) 0 ≡ t → over s (verdict g) ≡ fit f → f ≡ g
-    by-number true e q = by-check found (eqb found 0) (rw e at q)
-    by-number false e q = absurd (let r : cut (g .head .number) ≡ fit f = rw e at q in let y : _≡_ {A = ℕ} 0 1 = cc in omega arith)
-
-judged-head : (s : List ℕ) (at : ℕ) (f : Framing) → over s (judge at) ≡ fit f → f .head ≡ over s header
-unfolding judge frame
-judged-head s at f q =
-    let a : f ≡ over s (frame at) = verdict-fit s (over s (frame at)) f (sym (over-bind s verdict (frame at)) ∙ q) in
-    let b : over s (frame at) ≡ over s (framed at (over s header)) = over-bind s (framed at) header in
-    let z : f .head .number ≡ 0 = judged-number s at f q in
-    ap (λ (g : Framing). g .head) (a ∙ b) ∙ framed-head s at (over s header) (ap (λ (g : Framing). g .head .number) (sym (a ∙ b)) ∙ z)
 
 module _ (s : List ℕ) (p : ℕ) where
   candidate-left : p ≤ length s → over s (candidateAt p) ≡ over (drop p s) (candidate p)
@@ -222,25 +185,24 @@ module _ (s : List ℕ) (p : ℕ) where
     pub candidate-large : 1 < getD s (p + 9) 0 → fails ≡ over s (candidateAt p)
     candidate-large h = let e = length-octets in candidate-long refl (omega arith)
 
-    -- what the judgement of the record says
-    pub candidate-taken : {j : Judged} → j ≡ over s (judgeAt p) → takenUp j ≡ over s (candidateAt p)
-    unfolding takenUp standing
-    candidate-taken {j} q = by-judged j (sym (q ∙ judge-left s p l))
-      where
-        known : over s (candidateAt p) ≡ cond (begins (over (drop p s) header)) (standing (over (drop p s) (judge p))) fails
-        known = candidate-left l ∙ candidate-over (drop p s) p
+    -- the header that was read there
+    read-there : over (drop p s) header ≡ headerAt s p
+    unfolding headerAt
+    read-there = simp (le-ltb _ _ l)
 
-        either : (t : Bool) → fails ≡ cond t fails fails
-        either true = refl
-        either false = refl
+  pub candidate-unread : {n : ℕ} → (n ≡ 0 → ⊥) → refused n ≡ headerAt s p → fails ≡ over s (candidateAt p)
+  candidate-unread {n} z e = by-place (leb p (length s)) refl
+    where
+      by-place : (t : Bool) → leb p (length s) ≡ t → fails ≡ over s (candidateAt p)
+      by-place true t = let l : p ≤ length s = leb-true _ _ t in not-begun l (rw (read-there l, ← e, ne-eqb n 0 z))
+      by-place false t = candidate-near (let m : length s < p = leb-false _ _ t in omega arith)
 
-        by-judged : (j : Judged) → over (drop p s) (judge p) ≡ j → takenUp j ≡ over s (candidateAt p)
-        by-judged (cut r) e = rw (known, e) (either (begins (over (drop p s) header)))
-        by-judged (off r x) e = rw (known, e) (either (begins (over (drop p s) header)))
-        by-judged (fit f) e =
-            let h : f .head ≡ over (drop p s) header = judged-head (drop p s) p f e in
-            let z : f .head .number ≡ 0 = judged-number (drop p s) p f e in
-            rw (known, e, ← h, eq-eqb (f .head .number) 0 z)
+  module _ {t k u w n us : ℕ} (e : accepted t k u w n us ≡ headerAt s p) where
+    pub candidate-implausible : plausible k u n us ≡ false → fails ≡ over s (candidateAt p)
+    candidate-implausible q = let l = read-within s p e in not-begun l (rw (read-there l, ← e, q))
+
+    pub candidate-plausible : plausible k u n us ≡ true → standing (over s (judgeAt p)) ≡ over s (candidateAt p)
+    candidate-plausible q = let l = read-within s p e in rw (candidate-left l, candidate-over (drop p s) p, read-there l, ← e, q, judge-left s p l)
 
 -- THEOREM. A candidate is a record that the judgement accepts, with the same end, and its evidence is 1, 2 or 3.
 pub record Accepted (s : List ℕ) (p v e : ℕ) : Type 0 where

@@ -31,19 +31,11 @@ plausible k u n us =
     && ltb us 1000000
     && cond (eqb k 5) (eqb (legacy u n) 0) (not (eqb (asSize u) 0))
 
+-- a record that has been judged
 unfoldable pub standing : Judged → Candidate
 standing (fit f) = stands (family (f .head .kind)) (evidence (f .head .kind) (f .head .subtype)) (f .end)
 standing (off r e) = fails
 standing (cut r) = fails
-
--- a record that has been judged, where a scan may take it up
-unfoldable pub takenUp : Judged → Candidate
-takenUp (fit f) =
-    cond (plausible (f .head .kind) (f .head .subtype) (f .head .stored) (f .head .micros))
-    (stands (family (f .head .kind)) (evidence (f .head .kind) (f .head .subtype)) (f .end))
-    fails
-takenUp (off r e) = fails
-takenUp (cut r) = fails
 
 -- the header at the front has been read
 unfoldable pub headed : ℕ → Heading → Ask Candidate

@@ -1,56 +1,50 @@
 // The test that a scan puts the record at an offset to.
 ghost use mathlib.Core.Path.{_≡_};
 ghost use Rattle.rules.specs.Ask.{over};
-ghost use Rattle.judge.specs.Record.{judged};
-ghost use Rattle.candidate.specs.Candidate.{candidacy, candidateAt, family, evidence, plausible, takenUp};
+ghost use Rattle.header.specs.Read.{headerAt, values};
+ghost use Rattle.judge.specs.Record.{judgeAt};
+ghost use Rattle.candidate.specs.Candidate.{candidacy, candidateAt, family, evidence, plausible, standing};
 use crate::CandidateAnswer;
 use answer::Outcome;
 use header::CommonHeader;
-use judge::Verdict;
+use header::FrameAnswer;
+use header::HeaderAnswer;
+use header::WireLength;
 
 pub fn candidate_at(s: &[u8], at: usize) -> CandidateAnswer
     ensures answer { λ r. ⌜ candidacy r ≡ over (now (s .entry)) (candidateAt at) ⌝ }
 {
-    let n = s.len();
-    if n < at {
+    let HeaderAnswer::Read { header, wire } = header::read_header(s, at) else {
+        return CandidateAnswer::Fails;
+    };
+    if !is_plausible(header) {
         return CandidateAnswer::Fails;
     }
-    if n - at < 12 {
-        return CandidateAnswer::Fails;
-    }
-    // Most offsets fail here, after two octets.
-    if family_of(octets::be16(s, at + 4)) == 0 {
-        return CandidateAnswer::Fails;
-    }
-    // Of the others most fail here: no candidate has such a length.
-    if 65603 < octets::be32(s, at + 8) {
-        return CandidateAnswer::Fails;
-    }
-    taken_up(judge::judge_at(s, at))
+    take_up(s, at, header, wire)
 }
 
-// A record that passes and whose header allows it, as a candidate.
-fn taken_up(v: Verdict) -> CandidateAnswer
-    ensures { λ r. ⌜ candidacy r ≡ takenUp (judged v) ⌝ }
+// The record of a header that has been read there, where it is framed and its body passes.
+fn take_up(s: &[u8], at: usize, header: CommonHeader, wire: WireLength) -> CandidateAnswer
+    requires { ⌜ values (HeaderAnswer.Read header wire) ≡ headerAt (now s) at ⌝ }
+    ensures { λ r. ⌜ candidacy r ≡ standing (over (now (s .entry)) (judgeAt at)) ⌝ }
 {
-    match v {
-        Verdict::Cut(_) => CandidateAnswer::Fails,
-        Verdict::Off { refusal: _, end: _ } => CandidateAnswer::Fails,
-        Verdict::Fit {
-            header,
-            wire: _,
-            body: _,
+    let FrameAnswer::Framed {
+        header: h,
+        wire: _,
+        body,
+        end,
+    } = header::frame_of(s, at, header, wire)
+    else {
+        return CandidateAnswer::Fails;
+    };
+    let length = h.length;
+    match judge::check_body(&s[body..end], h.kind, h.subtype, length.0) {
+        Outcome::Refused(_) => CandidateAnswer::Fails,
+        Outcome::Accepted => CandidateAnswer::Stands {
+            family: family_of(h.kind),
+            evidence: evidence_of(h.kind, h.subtype),
             end,
-        } => {
-            if !is_plausible(header) {
-                return CandidateAnswer::Fails;
-            }
-            CandidateAnswer::Stands {
-                family: family_of(header.kind),
-                evidence: evidence_of(header.kind, header.subtype),
-                end,
-            }
-        }
+        },
     }
 }
 

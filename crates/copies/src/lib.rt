@@ -1,6 +1,6 @@
 // Octets copied from one lent place to another. Where the output ends, octets are dropped, so that every call answers.
 ghost use mathlib.Core.Path.{_≡_};
-ghost use Prim.Native.Nat.{_+_, _≤_};
+ghost use Prim.Native.Nat.{_+_, _≤_, min};
 ghost use lib.ListN.{length, take};
 ghost use Rattle.octets.specs.Octets.{part, patch};
 
@@ -36,18 +36,66 @@ fn put_few(out: &mut [u8], at: usize, src: &[u8], m: usize)
     }
 }
 
-// Copies m octets in blocks. The last block is taken from the end, over octets that are stored already.
+// Copies m octets by blocks whose number the length's class tells, so that there is little to foresee. The later half is taken from
+// the end, over octets that are stored already.
 fn put_blocks(out: &mut [u8], at: usize, src: &[u8], m: usize)
     requires { ⌜ (16 ≤ m) × (at + m ≤ length (now out)) × (m ≤ length (now src)) ⌝ }
     ensures { λ _. ⌜ now (out .exit) ≡ patch (now (out .entry)) at (take m (now (src .entry))) ⌝ }
 {
-    let last = m - 16;
-    let mut i = 0;
-    while i < last {
-        put_block(out, at + i, src, i);
-        i += 16;
+    if m <= 32 {
+        put_block(out, at, src, 0);
+        put_block(out, at + (m - 16), src, m - 16);
+        return;
     }
-    put_block(out, at + last, src, last);
+    if m <= 64 {
+        put_two(out, at, src, 0);
+        put_two(out, at + (m - 32), src, m - 32);
+        return;
+    }
+    put_fours(out, at, src, m);
+}
+
+// Copies m octets by sixty-four, the last ones from the end.
+fn put_fours(out: &mut [u8], at: usize, src: &[u8], m: usize)
+    requires { ⌜ (64 ≤ m) × (at + m ≤ length (now out)) × (m ≤ length (now src)) ⌝ }
+    ensures { λ _. ⌜ now (out .exit) ≡ patch (now (out .entry)) at (take m (now (src .entry))) ⌝ }
+{
+    let last = m - 64;
+    let mut i = 0;
+    loop {
+        put_four(out, at + i, src, i);
+        if i == last {
+            return;
+        }
+        i = least(i + 64, last);
+    }
+}
+
+fn least(a: usize, b: usize) -> usize
+    ensures { λ r. ⌜ r ≡ min a b ⌝ }
+{
+    if a < b {
+        return a;
+    }
+    b
+}
+
+// Copies the sixty-four octets that stand at an offset.
+fn put_four(out: &mut [u8], to: usize, src: &[u8], at: usize)
+    requires { ⌜ (to + 64 ≤ length (now out)) × (at + 64 ≤ length (now src)) ⌝ }
+    ensures { λ _. ⌜ now (out .exit) ≡ patch (now (out .entry)) to (part (now (src .entry)) at 64) ⌝ }
+{
+    put_two(out, to, src, at);
+    put_two(out, to + 32, src, at + 32);
+}
+
+// Copies the thirty-two octets that stand at an offset.
+fn put_two(out: &mut [u8], to: usize, src: &[u8], at: usize)
+    requires { ⌜ (to + 32 ≤ length (now out)) × (at + 32 ≤ length (now src)) ⌝ }
+    ensures { λ _. ⌜ now (out .exit) ≡ patch (now (out .entry)) to (part (now (src .entry)) at 32) ⌝ }
+{
+    put_block(out, to, src, at);
+    put_block(out, to + 16, src, at + 16);
 }
 
 // Copies the sixteen octets that stand at an offset.

@@ -3,17 +3,16 @@ use Prim.Native.Nat.{ℕ, _+_, _-_, _<_, _≤_}
 use mathlib.Core.Path.{_≡_, refl, sym, _∙_, ap}
 use mathlib.Core.Bool.{Bool, true, false, cond}
 use mathlib.Core.List.{List}
-use native.Mathlib.Nat.{add-assoc}
 use native.Mathlib.Omega.{arith}
 use lib.ListN.{length, drop, length-drop}
 use lib.Dec.{ltb, leb, eqb}
-use borrow.Author.Tests.{lt-ltb, le-ltb, ltb-true, ltb-false, le-leb, lt-leb, ne-eqb, eqb-true, eqb-false}
+use borrow.Author.Tests.{lt-ltb, le-ltb, ltb-true, ltb-false, le-leb, lt-leb, eq-eqb, ne-eqb, eqb-true, eqb-false}
 use Rattle.rules.specs.Ask.{over, _>>=_}
 use Rattle.rules.proofs.Asked.{over-bind}
 use Rattle.rules.proofs.Meets.{Meets, meets-cond, meets-bind, meets-over}
 use Rattle.header.specs.Kind.{known, timed, size}
 use Rattle.header.specs.Read.{Heading, refused, accepted, header, headerAt}
-use Rattle.header.specs.Frame.{Framing, unframed, framed, frame, frameAt}
+use Rattle.header.specs.Frame.{Framing, unframed, framed, frame, frameOf, frameAt}
 use Rattle.header.proofs.KnownTypes.{size-timed, size-plain}
 
 -- a header that is read is there whole; only refusal 1 is for want of octets
@@ -80,22 +79,35 @@ pub frame-ok : (at : ℕ) → Meets (FrameOk at) false 0 (frame at)
 unfolding frame
 frame-ok at = meets-bind (FrameOk at) HeaderOk (framed at) (framed-ok at) false 0 header header-ok
 
--- a record that is framed has the header that was read
-pub framed-head : (s : List ℕ) (at : ℕ) (h : Heading) → over s (framed at h) .head .number ≡ 0 → over s (framed at h) .head ≡ h
-unfolding framed over
-framed-head s at h = by-tests (eqb (h .number) 0) (leb (size (h .kind) + h .stored) (length s)) refl refl
-  where
-    by-tests : (t l : Bool) → eqb (h .number) 0 ≡ t → leb (size (h .kind) + h .stored) (length s) ≡ l
-        → over s (framed at h) .head .number ≡ 0 → over s (framed at h) .head ≡ h
-    by-tests true true p q z = rw (p, q)
-    by-tests true false p q z = absurd (let y : _≡_ {A = ℕ} 4 0 = rw (p, q) at z in omega arith)
-    by-tests false l p q z = absurd (eqb-false (h .number) 0 p (rw p at z))
-
 module _ (s : List ℕ) (at : ℕ) where
+  -- the frame of a header h, by what is left
+  module _ (h : Heading) where
+    pub of-beyond : length s < at → unframed 8 ≡ frameOf s at h
+    unfolding frameOf
+    of-beyond l = simp (lt-ltb _ _ l)
+
+    module _ (l : at ≤ length s) where
+      pub of-within : over (drop at s) (framed at h) ≡ frameOf s at h
+      unfolding frameOf
+      of-within = simp (le-ltb _ _ l)
+
+      module _ (e : h .number ≡ 0) {z : ℕ} (i : z ≡ size (h .kind)) where
+        pub of-cut : length s - at < z + h .stored → unframed 4 ≡ frameOf s at h
+        unfolding framed over
+        of-cut m =
+            let c : leb (size (h .kind) + h .stored) (length (drop at s)) ≡ false = lt-leb (size (h .kind) + h .stored) (length (drop at s)) (rw length-drop (omega arith)) in
+            rw (← of-within, eq-eqb (h .number) 0 e, c)
+
+        pub of-whole : z + h .stored ≤ length s - at → record { head = h; body = at + z; end = at + (z + h .stored) } ≡ frameOf s at h
+        unfolding framed over
+        of-whole m =
+            let c : leb (size (h .kind) + h .stored) (length (drop at s)) ≡ true = le-leb (size (h .kind) + h .stored) (length (drop at s)) (rw length-drop (omega arith)) in
+            rw (← of-within, eq-eqb (h .number) 0 e, c, i)
+
   -- the frame by the header that was read
-  frame-within : at ≤ length s → over (drop at s) (framed at (headerAt s at)) ≡ frameAt s at
+  frame-of : at ≤ length s → frameOf s at (headerAt s at) ≡ frameAt s at
   unfolding frameAt frame headerAt
-  frame-within l = simp (le-ltb _ _ l) (sym (over-bind (drop at s) (framed at) header))
+  frame-of l = rw (← of-within (headerAt s at) l) (simp (le-ltb _ _ l) (sym (over-bind (drop at s) (framed at) header)))
 
   -- an offset is beyond the stream or not
   by-place : {A : Type 0} → (length s < at → A) → (at ≤ length s → A) → A
@@ -114,7 +126,7 @@ module _ (s : List ℕ) (at : ℕ) where
 
     refused-within : at ≤ length s → unframed n ≡ frameAt s at
     unfolding framed over
-    refused-within l = rw (← frame-within l, ← e, ne-eqb n 0 z)
+    refused-within l = rw (← frame-of l, ← e, ← of-within (refused n) l, ne-eqb n 0 z)
 
     pub frame-refused : unframed n ≡ frameAt s at
     frame-refused = by-place refused-beyond refused-within
@@ -128,29 +140,8 @@ module _ (s : List ℕ) (at : ℕ) where
     pub read-within : at ≤ length s
     read-within = by-place (λ l. absurd (not-beyond l)) (λ l. l)
 
-    pub read-room : at + size k ≤ length s
-    unfolding headerAt
-    read-room =
-        let l : at ≤ length s = read-within in
-        let q : accepted t k u w stored us ≡ over (drop at s) header = e ∙ simp (le-ltb _ _ l) in
-        let r : size k ≤ length (drop at s) = rw (← q) at (header-room (drop at s)) refl in
-        let d = length-drop at s in
-        omega arith
-
-    pub frame-cut : (z : ℕ) → z ≡ size k → length s - (at + z) < stored → unframed 4 ≡ frameAt s at
-    unfolding framed over
-    frame-cut z i m =
-        let r = read-room in
-        let c : leb (size k + stored) (length (drop at s)) ≡ false = lt-leb (size k + stored) (length (drop at s)) (rw length-drop (omega arith)) in
-        rw (← frame-within read-within, ← e, c)
-
-    pub frame-whole : (z : ℕ) → z ≡ size k → stored ≤ length s - (at + z)
-        → record { head = accepted t k u w stored us; body = at + z; end = at + z + stored } ≡ frameAt s at
-    unfolding framed over
-    frame-whole z i m =
-        let r = read-room in
-        let c : leb (size k + stored) (length (drop at s)) ≡ true = le-leb (size k + stored) (length (drop at s)) (rw length-drop (omega arith)) in
-        rw (← frame-within read-within, ← e, c, i, add-assoc at (size k) stored)
+    pub frame-read : frameOf s at (accepted t k u w stored us) ≡ frameAt s at
+    frame-read = rw (← frame-of read-within, ← e)
 
   -- a record that was framed at the offset
   module _ (f : Framing) (e : f ≡ frameAt s at) (z : f .head .number ≡ 0) where

@@ -37,6 +37,10 @@ framed at h =
 unfoldable pub frame : ℕ → Ask Framing
 frame at = header >>= framed at
 
+-- the record of a header that has been read at an offset of the stream s; an offset beyond it is 8
+unfoldable pub frameOf : List ℕ → ℕ → Heading → Framing
+frameOf s at h = cond (ltb (length s) at) (unframed 8) (over (drop at s) (framed at h))
+
 -- the record at an offset of the stream s
 unfoldable pub frameAt : List ℕ → ℕ → Framing
 frameAt s at = cond (ltb (length s) at) (unframed 8) (over (drop at s) (frame at))

@@ -2,14 +2,17 @@
 ghost use mathlib.Core.Path.{_≡_};
 ghost use Rattle.header.specs.Kind.{known, timed, size};
 
+// 0 to 13, and then the first two of each sixteen up to 49.
 pub(crate) fn is_known(kind: u16) -> bool
     ensures { λ r. ⌜ r ≡ known kind ⌝ }
 {
-    match kind {
-        0..=13 => true,
-        16..=17 | 32..=33 | 48..=49 => true,
-        _ => false,
+    if kind < 14 {
+        return true;
     }
+    if 49 < kind {
+        return false;
+    }
+    kind % 16 < 2
 }
 
 pub(crate) fn is_timed(kind: u16) -> bool

@@ -5,6 +5,7 @@ mod read;
 mod write;
 
 use answer::Refusal;
+pub use frame::frame_of;
 pub use frame::frame_record;
 pub use read::read_header;
 pub use write::write_header;

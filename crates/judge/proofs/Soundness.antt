@@ -48,13 +48,6 @@ pub judge-ok : (at : ℕ) → Meets (JudgedOk at) false 0 (judge at)
 unfolding judge
 judge-ok at = meets-bind (JudgedOk at) (FrameOk at) verdict (verdict-ok at) false 0 (frame at) (frame-ok at)
 
--- a record that passes was read
-pub judged-number : (s : List ℕ) (at : ℕ) (f : Framing) → over s (judge at) ≡ fit f → f .head .number ≡ 0
-judged-number s at f q =
-    let o = meets-over (JudgedOk at) s false 0 (judge at) (omega arith) (judge-ok at) in
-    let h : JudgedOk at (o .met) (o .bytes) (fit f) = rw q at (o .holds) in
-    h .0
-
 -- the judgement at an offset is that of what is left, and beyond the stream there is none
 module _ (s : List ℕ) (p : ℕ) where
   pub judge-left : p ≤ length s → over s (judgeAt p) ≡ over (drop p s) (judge p)

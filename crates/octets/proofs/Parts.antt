@@ -75,22 +75,35 @@ copy-block s l to at h k q =
     let e : take 16 (part l at (at + 16 - at)) ≡ part l at 16 = ap (λ (m : ℕ). take 16 (part l at m)) z ∙ take-all 16 (part l at 16) (le-of-eq n) in
     patch-lent s to (to + 16) 16 (part l at 16) n h (omega arith) (q ∙ ap (patch (part s to (to + 16 - to)) 0) e)
 
--- the last n of m octets, over some that are stored already
-pub copy-last : (s l : List ℕ) (at i m n : ℕ) {t u : List ℕ} → n ≤ m → m - n ≤ i → i ≤ m → m ≤ length l → at + m ≤ length s
+-- n octets from e on, over some of them that are stored already
+pub copy-over : (s l : List ℕ) (at i e n : ℕ) {t u : List ℕ} → e ≤ i → i ≤ e + n → e + n ≤ length l → at + (e + n) ≤ length s
     → t ≡ patch s at (take i l)
-    → u ≡ patch t (at + (m - n)) (part l (m - n) n) → u ≡ patch s at (take m l)
-copy-last s l at i m n {t} {u} a b c d f p q =
-    let e : ℕ = m - n in
+    → u ≡ patch t (at + e) (part l e n) → u ≡ patch s at (take (e + n) l)
+copy-over s l at i e n {t} {u} b c d f p q =
     let r : List ℕ = patch s at (take e l) in
     let x : e + (i - e) ≡ i = omega arith in
-    let y : e + n ≡ m = omega arith in
     let k : length (part l e (i - e)) ≡ i - e = length-part l e (i - e) (omega arith) in
     let j : length (part l e n) ≡ n = length-part l e n (omega arith) in
     let g : length r ≡ length s = length-patch s at (take e l) in
     let before : t ≡ patch r (at + e) (part l e (i - e)) = p ∙ ap (λ (v : ℕ). patch s at (take v l)) (sym x) ∙ sym (copy-part s l at e (i - e) (omega
     arith) refl refl) in
     copy-part s l at e n (omega arith) refl (q ∙ ap (λ (v : List ℕ). patch v (at + e) (part l e n)) before ∙ patch-over r (at + e) (part l e
-    (i - e)) (part l e n) (omega arith) (omega arith)) ∙ ap (λ (v : ℕ). patch s at (take v l)) y
+    (i - e)) (part l e n) (omega arith) (omega arith))
+
+-- the first n octets of m, and then the last n
+pub copy-ends : (s l : List ℕ) (at m n : ℕ) {t u : List ℕ} → n ≤ m → m ≤ n + n → m ≤ length l → at + m ≤ length s
+    → t ≡ patch s at (part l 0 n)
+    → u ≡ patch t (at + (m - n)) (part l (m - n) n) → u ≡ patch s at (take m l)
+copy-ends s l at m n a b c d p q =
+    let y : m - n + n ≡ m = omega arith in
+    rw y at (copy-over s l at n (m - n) n (omega arith) (omega arith) (omega arith) (omega arith) p q)
+
+-- twice n octets, the second n after the first
+pub copy-twice : (s l : List ℕ) (to at n : ℕ) {t u : List ℕ} → at + (n + n) ≤ length l
+    → t ≡ patch s to (part l at n)
+    → u ≡ patch t (to + n) (part l (at + n) n) → u ≡ patch s to (part l at (n + n))
+copy-twice s l to at n h p q =
+    stores s to n (part l at n) (part l (at + n) n) (length-part l at n (omega arith)) p q ∙ ap (patch s to) (part-join l at n n)
 
 -- stores in the part that was lent from e on, seen in the whole
 pub patch-rest : (s : List ℕ) (e at : ℕ) (bs : List ℕ) {t : List ℕ} → e ≤ length s → t ≡ patch (part s e (length s - e)) at bs

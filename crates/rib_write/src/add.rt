@@ -127,27 +127,45 @@ fn is_unfit(count: u16, subtype: u16, path: u32, m: usize) -> bool
     path != 0
 }
 
-// The entry at the front of the part that starts at the body's end.
+// The entry at the front of the part that starts at the body's end, where there is room for it.
 fn put_entry(part: &mut [u8], subtype: u16, e: NewEntry, attributes: &[u8])
-    requires { ⌜ length (now attributes) ≤ 65535 ⌝ }
+    requires { ⌜ (length (now attributes) ≤ 65535) × (8 + pathSize subtype ≤ length (now part)) ⌝ }
     ensures { λ _. ⌜ now (part .exit) ≡ patch (now (part .entry)) 0 (entryOctets (pathSize subtype) e (now (attributes .entry))) ⌝ }
 {
     let l = rib_head::layout_of(subtype);
     let size = l.path;
-    octets::put_be16(part, 0, e.peer);
-    octets::put_be32(part, 2, e.originated);
+    store16(part, 0, e.peer);
+    store32(part, 2, e.originated);
     put_path(part, subtype, 6, e.path);
-    octets::put_be16(part, 6 + size, attributes.len() as u16);
+    store16(part, 6 + size, attributes.len() as u16);
     copies::put_octets(part, 8 + size, attributes);
 }
 
 // The path number, where the subtype has one.
 fn put_path(part: &mut [u8], subtype: u16, at: usize, v: u32)
+    requires { ⌜ at + pathSize subtype ≤ length (now part) ⌝ }
     ensures { λ _. ⌜ now (part .exit) ≡ patch (now (part .entry)) at (bytesOf (pathSize subtype) v) ⌝ }
 {
     let l = rib_head::layout_of(subtype);
     if l.path == 0 {
         return;
     }
-    octets::put_be32(part, at, v);
+    store32(part, at, v);
+}
+
+// A number where there is room for it. A part whose length is written out leaves no octet to test for room.
+fn store16(part: &mut [u8], at: usize, v: u16)
+    requires { ⌜ at + 2 ≤ length (now part) ⌝ }
+    ensures { λ _. ⌜ now (part .exit) ≡ patch (now (part .entry)) at (bytesOf 2 v) ⌝ }
+{
+    let end = at + 2;
+    octets::put_be16(&mut part[at..end], 0, v);
+}
+
+fn store32(part: &mut [u8], at: usize, v: u32)
+    requires { ⌜ at + 4 ≤ length (now part) ⌝ }
+    ensures { λ _. ⌜ now (part .exit) ≡ patch (now (part .entry)) at (bytesOf 4 v) ⌝ }
+{
+    let end = at + 4;
+    octets::put_be32(&mut part[at..end], 0, v);
 }

@@ -8,3 +8,9 @@ pub enum Found {
     At { offset: usize, evidence: u8 },
     Nowhere,
 }
+
+// Whether a row of candidates stands, with the first one's evidence.
+pub(crate) enum Row {
+    Whole(u8),
+    Broken,
+}

@@ -1,14 +1,16 @@
 // The scan for a place to take up again.
 ghost use mathlib.Core.Path.{_≡_};
-ghost use mathlib.Core.Bool.{false};
+ghost use mathlib.Core.Bool.{false, cond};
+ghost use lib.Dec.{eqb};
 ghost use Prim.Native.Nat.{ℕ, suc, _+_, _-_, _<_, _≤_, min};
 ghost use lib.ListN.{length};
 ghost use Rattle.rules.specs.Ask.{over};
-ghost use Rattle.walk.specs.Step.{scan as scanRule};
+ghost use Rattle.walk.specs.Step.{row, scan as scanRule};
 ghost use Rattle.walk.specs.Judged.{fails};
 ghost use Rattle.candidate.specs.Candidate.{candidateAt};
-ghost use Rattle.scan.specs.Sight.{sighted};
+ghost use Rattle.scan.specs.Sight.{sighted, rowed};
 use crate::Found;
+use crate::Row;
 use candidate::CandidateAnswer;
 
 // The first distance from p, up to the window, where a candidate stands with `more` of its family straight after it.
@@ -17,40 +19,58 @@ pub fn scan(s: &[u8], p: usize, window: usize, more: u8) -> Found
 {
     let last = reach(s.len(), p, window);
     let mut d: usize = 0;
-    'distance: loop {
+    loop {
         d = pass_over(s, p, d, last);
         if last <= d {
             return Found::Nowhere;
         }
         d += 1;
         let offset = p + d;
+        if let Row::Whole(evidence) = row_at(s, offset, more) {
+            return Found::At { offset, evidence };
+        }
+    }
+}
+
+// A candidate at an offset, with `more` of its family straight after it. The first goes through the same turn as the others: the
+// test then has one caller, which the compiler takes it into.
+fn row_at(s: &[u8], offset: usize, more: u8) -> Row
+    ensures { λ r. ⌜ rowed r ≡ over (now (s .entry)) (row candidateAt more offset) ⌝ }
+{
+    let mut of: u8 = 0;
+    let mut by: u8 = 0;
+    let mut i: u8 = 0;
+    let mut at = offset;
+    loop {
         let CandidateAnswer::Stands {
             family,
             evidence,
             end,
-        } = candidate::candidate_at(s, offset)
+        } = candidate::candidate_at(s, at)
         else {
-            continue 'distance;
+            return Row::Broken;
         };
-        let mut i: u8 = 0;
-        let mut at = end;
-        while i < more {
-            let CandidateAnswer::Stands {
-                family: other,
-                evidence: _,
-                end: after,
-            } = candidate::candidate_at(s, at)
-            else {
-                continue 'distance;
-            };
-            if other != family {
-                continue 'distance;
-            }
-            at = after;
-            i += 1;
+        of = first(i, family, of);
+        by = first(i, evidence, by);
+        if family != of {
+            return Row::Broken;
         }
-        return Found::At { offset, evidence };
+        if more <= i {
+            return Row::Whole(by);
+        }
+        at = end;
+        i += 1;
     }
+}
+
+// The value of the first turn.
+fn first(i: u8, new: u8, old: u8) -> u8
+    ensures { λ r. ⌜ r ≡ cond (eqb i 0) new old ⌝ }
+{
+    if i == 0 {
+        return new;
+    }
+    old
 }
 
 // The last distance from p that a scan of n octets looks at: no header has room beyond it.

@@ -1,10 +1,12 @@
 -- One turn of each loop of the walk, for code: what a rule is once the next judgement is known.
 use Prim.Native.Nat.{ℕ, zero, suc, _+_, _-_, _<_, _≤_}
 use mathlib.Core.Path.{_≡_, refl, sym, _∙_}
-use mathlib.Core.Bool.{true, false}
+use mathlib.Core.Bool.{true, false, cond}
 use mathlib.Core.List.{List}
 use native.Mathlib.Omega.{arith}
+use native.Mathlib.Nat.{sub-zero}
 use lib.ListN.{length}
+use lib.Dec.{eqb}
 use borrow.Author.Tests.{eq-eqb, ne-eqb, le-leb, lt-leb}
 use Rattle.rules.specs.Ask.{Ask, done, over}
 use Rattle.rules.proofs.Asked.{over-bind}
@@ -43,32 +45,68 @@ module _ (candidate : ℕ → Ask Candidate) (s : List ℕ) where
   unfolding row rowOn over
   row-fails n p q = over-bind s _ (candidate p) ∙ rw q
 
-  pub row-first : (n p : ℕ) {f v e : ℕ} → over s (candidate p) ≡ stands f v e → over s (row candidate n p) ≡ over s (rowFrom candidate n f v e)
+  row-first : (n p : ℕ) {f v e : ℕ} → over s (candidate p) ≡ stands f v e → over s (row candidate n p) ≡ over s (rowFrom candidate n f v e)
   unfolding row rowOn
   row-first n p q = over-bind s _ (candidate p) ∙ rw q
 
   -- i of n candidates of the family f stand, and the next is looked for at p
-  module _ (n i f v p : ℕ) where
-    pub row-whole : n ≤ i → over s (rowFrom candidate (n - i) f v p) ≡ whole v
-    unfolding rowFrom over
-    row-whole l = let z : n - i ≡ 0 = omega arith in rw z
+  module _ (n i f v p : ℕ) (l : i < n) where
+    left : n - i ≡ suc (n - suc i)
+    left = omega arith
 
-    module _ (l : i < n) where
-      left : n - i ≡ suc (n - (i + 1))
-      left = omega arith
+    row-breaks : over s (candidate p) ≡ fails → over s (rowFrom candidate (n - i) f v p) ≡ broken
+    unfolding rowFrom whenOf over
+    row-breaks q = rw left (over-bind s _ (candidate p) ∙ rw q)
 
-      pub row-breaks : over s (candidate p) ≡ fails → over s (rowFrom candidate (n - i) f v p) ≡ broken
+    module _ {g w e : ℕ} (q : over s (candidate p) ≡ stands g w e) where
+      row-parts : (g ≡ f → ⊥) → over s (rowFrom candidate (n - i) f v p) ≡ broken
       unfolding rowFrom whenOf over
-      row-breaks q = rw left (over-bind s _ (candidate p) ∙ rw q)
+      row-parts o = rw left (over-bind s _ (candidate p) ∙ simp (q, ne-eqb f g (λ x. o (sym x))))
 
-      module _ {g w e : ℕ} (q : over s (candidate p) ≡ stands g w e) where
-        pub row-parts : (g ≡ f → ⊥) → over s (rowFrom candidate (n - i) f v p) ≡ broken
-        unfolding rowFrom whenOf over
-        row-parts o = rw left (over-bind s _ (candidate p) ∙ simp (q, ne-eqb f g (λ x. o (sym x))))
+      row-goes : g ≡ f → over s (rowFrom candidate (n - i) f v p) ≡ over s (rowFrom candidate (n - suc i) f v e)
+      unfolding rowFrom whenOf
+      row-goes o = rw left (over-bind s _ (candidate p) ∙ simp (q, eq-eqb f g (sym o)))
 
-        pub row-goes : g ≡ f → over s (rowFrom candidate (n - i) f v p) ≡ over s (rowFrom candidate (n - (i + 1)) f v e)
-        unfolding rowFrom whenOf
-        row-goes o = rw left (over-bind s _ (candidate p) ∙ simp (q, eq-eqb f g (sym o)))
+  -- the row at o, of n candidates after the first: i have stood, of the family f and by the evidence v, and the next is looked for at p
+  module _ (n o : ℕ) where
+    pub Stood : ℕ → ℕ → ℕ → ℕ → Type 0
+    Stood zero f v p = p ≡ o
+    Stood (suc i) f v p = over s (row candidate n o) ≡ over s (rowFrom candidate (n - i) f v p)
+
+    pub row-starts : (f v : ℕ) → Stood 0 f v o
+    unfolding Stood
+    row-starts f v = refl
+
+    pub row-ends : (i f v p : ℕ) → i ≤ n → Stood i f v p → over s (candidate p) ≡ fails → broken ≡ over s (row candidate n o)
+    unfolding Stood
+    row-ends zero f v p l h q = sym (row-fails n o (rw h at q))
+    row-ends (suc i) f v p l h q = sym (h ∙ row-breaks n i f v p l q)
+
+    -- the first sets the family, and the evidence
+    later : (i a b : ℕ) → cond (eqb (suc i) 0) a b ≡ b
+    later i a b = simp (ne-eqb (suc i) 0 (λ z. omega arith))
+
+    -- one more stands, of the family g
+    module _ {g w e : ℕ} where
+      pub row-other : (i f v p : ℕ) → i ≤ n → Stood i f v p → over s (candidate p) ≡ stands g w e → {f' : ℕ} → f' ≡ cond (eqb i 0) g f → (g ≡ f' → ⊥)
+          → broken ≡ over s (row candidate n o)
+      unfolding Stood
+      row-other zero f v p l h q x d = absurd (d (sym x))
+      row-other (suc i) f v p l h q x d = sym (h ∙ row-parts n i f v p l q (λ y. d (y ∙ sym (x ∙ later i g f))))
+
+      pub row-turned : (i f v p : ℕ) → i ≤ n → Stood i f v p → over s (candidate p) ≡ stands g w e → {f' v' : ℕ} → f' ≡ cond (eqb i 0) g f
+          → v' ≡ cond (eqb i 0) w v → g ≡ f' → over s (row candidate n o) ≡ over s (rowFrom candidate (n - i) f' v' e)
+      unfolding Stood
+      row-turned zero f v p l h q x y d = rw (x, y, sub-zero) (row-first n o (rw h at q))
+      row-turned (suc i) f v p l h q x y d = rw (x ∙ later i g f, y ∙ later i w v) (h ∙ row-goes n i f v p l q (d ∙ x ∙ later i g f))
+
+    pub row-whole : (i f v p : ℕ) → n ≤ i → over s (row candidate n o) ≡ over s (rowFrom candidate (n - i) f v p) → whole v ≡ over s (row candidate n o)
+    unfolding rowFrom over
+    row-whole i f v p l h = let z : n - i ≡ 0 = omega arith in sym (h ∙ rw z)
+
+    pub row-longer : (i f v p : ℕ) → over s (row candidate n o) ≡ over s (rowFrom candidate (n - i) f v p) → Stood (i + 1) f v p
+    unfolding Stood
+    row-longer i f v p h = let z : i + 1 ≡ suc i = omega arith in rw z h
 
   -- the scan from p of a window, for n candidates after the first
   module _ (n p window : ℕ) where

@@ -1,69 +1,78 @@
-use Prim.Native.Nat.{_≤_, _-_}
-use mathlib.Core.Path.{_≡_, refl, _∙_, ap}
 use native.Mathlib.Omega.{arith}
-use lib.ListN.{length, take}
-use Rattle.octets.specs.Octets.{patch}
-use Rattle.octets.proofs.Stores.{length-patch}
-use Rattle.octets.proofs.Parts.{copy-part, copy-last}
+use Rattle.octets.proofs.Parts.{copy-ends}
+use borrow.Author.Needs.{needs}
 use Rattle.copies.proofs.put_blocks.Statement.{statement}
 use Rattle.copies.proofs.put_blocks.Tie as tie
 
-abbrev Inv-loop : tie.InvT-loop
-Inv-loop out₀ at src m last i₀ out i = (i ≤ m) × (out ≡ patch out₀ at (take i src))
+put-block-requires : tie.Need-put-block-requires
+put-block-requires c κs = search needs
 
-abbrev μ-loop : tie.MeasureT-loop
-μ-loop out₀ at src m last i₀ out i = last - i
+sub-put-block : tie.Need-sub-put-block
+sub-put-block c = search needs
 
-sub-last : tie.Need-sub-last Inv-loop μ-loop
-sub-last c = omega arith
+add-put-block : tie.Need-add-put-block
+add-put-block c = search needs
 
-loop-holds : tie.Need-loop-holds Inv-loop μ-loop
-unfolding patch
-loop-holds c = (omega arith, refl)
+sub-put-block-2 : tie.Need-sub-put-block-2
+sub-put-block-2 c = search needs
 
-add-put-block : tie.Need-add-put-block Inv-loop μ-loop
-add-put-block c = omega arith
+put-block-requires-2 : tie.Need-put-block-requires-2
+put-block-requires-2 c κs = search needs
 
-put-block-requires : tie.Need-put-block-requires Inv-loop μ-loop
-put-block-requires c κs = (omega (arith, ap length (c .before .before .loop .inv .1) ∙ length-patch _ _ _), omega arith)
+same-length : tie.Need-same-length
+same-length c = search needs
 
-add-i : tie.Need-add-i Inv-loop μ-loop
-add-i c = omega arith
+returns : tie.Need-returns
+returns c = let start = c .before .before .before .before .before .before .before .before .before .before .before in copy-ends _ _ _ _ 16 (start .pre .0) (c .before .before .before .before .before .before .before .before .if1 .taken) (start .pre .2) (start .pre .1) (c .before .before .before .before .before .before .put-block .ensures) (c .before .before .put-block2 .ensures)
 
-loop-less : tie.Need-loop-less Inv-loop μ-loop
-loop-less c = omega arith
+put-two-requires : tie.Need-put-two-requires
+put-two-requires c κs = search needs
 
-loop-again : tie.Need-loop-again Inv-loop μ-loop
-loop-again c = (omega arith, copy-part _ _ _ _ 16 (omega arith) (c .before .before .before .before .before .loop .inv .1) (c .before .before .put-block .ensures))
+sub-put-two : tie.Need-sub-put-two
+sub-put-two c = search needs
 
-add-put-block-2 : tie.Need-add-put-block-2 Inv-loop μ-loop
-add-put-block-2 c = omega arith
+add-put-two : tie.Need-add-put-two
+add-put-two c = search needs
 
-put-block-requires-2 : tie.Need-put-block-requires-2 Inv-loop μ-loop
-put-block-requires-2 c κs = (omega (arith, ap length (c .before .before .loop .inv .1) ∙ length-patch _ _ _), omega arith)
+sub-put-two-2 : tie.Need-sub-put-two-2
+sub-put-two-2 c = search needs
 
-same-length : tie.Need-same-length Inv-loop μ-loop
-same-length c = ap length (c .before .before .put-block2 .ensures) ∙ length-patch _ _ _ ∙ ap length (c .before .before .before .before .before .loop .inv .1) ∙ length-patch _ _ _
+put-two-requires-2 : tie.Need-put-two-requires-2
+put-two-requires-2 c κs = search needs
 
-returns : tie.Need-returns Inv-loop μ-loop
-returns c =
-    let start = c .before .before .before .before .before .before .before .before in
-    copy-last _ _ _ _ _ 16 (start .pre .0) (c .before .before .before .before .loop-test .left) (c .before .before .before .before .before .loop .inv .0) (start .pre .2) (start .pre .1) (c .before .before .before .before .before .loop .inv .1) (c .before .before .put-block2 .ensures)
+same-length-2 : tie.Need-same-length-2
+same-length-2 c = search needs
+
+returns-2 : tie.Need-returns-2
+returns-2 c = let start = c .before .before .before .before .before .before .before .before .before .before .before .before in copy-ends _ _ _ _ 32 (omega arith) (c .before .before .before .before .before .before .before .before .if2 .taken) (start .pre .2) (start .pre .1) (c .before .before .before .before .before .before .put-two .ensures) (c .before .before .put-two2 .ensures)
+
+put-fours-requires : tie.Need-put-fours-requires
+put-fours-requires c κs = search needs
+
+same-length-3 : tie.Need-same-length-3
+same-length-3 c = search needs
+
+returns-3 : tie.Need-returns-3
+returns-3 c = search needs
 
 pub put-blocks-spec : {M : Type 1} → statement M
 put-blocks-spec =
     tie.close
     (tie.spec
-    Inv-loop
-    μ-loop
-    sub-last
-    loop-holds
-    add-put-block
     put-block-requires
-    add-i
-    loop-less
-    loop-again
-    add-put-block-2
+    sub-put-block
+    add-put-block
+    sub-put-block-2
     put-block-requires-2
     same-length
-    returns)
+    returns
+    put-two-requires
+    sub-put-two
+    add-put-two
+    sub-put-two-2
+    put-two-requires-2
+    same-length-2
+    returns-2
+    put-fours-requires
+    same-length-3
+    returns-3)

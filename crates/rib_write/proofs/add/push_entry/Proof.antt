@@ -1,6 +1,8 @@
-use Prim.Native.Nat.{_<_}
+use Prim.Native.Nat.{_-_, _<_}
+use lib.ListN.{length}
 use native.Mathlib.Omega.{arith}
 use borrow.Author.Needs.{needs}
+use Rattle.octets.proofs.Parts.{length-part}
 use Rattle.rib_head.proofs.Layouts.{path-size-le}
 use Rattle.rib_head.proofs.Heads.{carried-not, carried-so, path-of}
 use Rattle.rib_write.proofs.Answers.{fit-count, count-room, push-beyond, push-uncounted}
@@ -90,7 +92,15 @@ put-entry-requires : tie.Need-put-entry-requires
 put-entry-requires c κs =
     let at-if4 = c .before .before .before in
     let at-is-unfit = at-if4 .before in
-    fit-count _ _ _ _ (at-is-unfit .is-unfit .ensures) (at-if4 .if4 .left) .1
+    let at-if3 = at-is-unfit .before in
+    let at-layout-of = at-if3 .before .before in
+    let at-if2 = at-layout-of .before in
+    let at-if1 = at-if2 .before .before in
+    let start = at-if1 .before .before .before .args in
+    let there = length-part (start .out .now) (start .b .len) (length (start .out .now) - start .b .len) (omega (arith, at-if1 .if1 .left)) in (
+      fit-count _ _ _ _ (at-is-unfit .is-unfit .ensures) (at-if4 .if4 .left) .1,
+      omega (arith, there, path-of _ (at-layout-of .layout-of .ensures), c .before .if5 .left),
+    )
 
 add-put-be16 : tie.Need-add-put-be16
 add-put-be16 c =

@@ -1,3 +1,4 @@
+use native.Mathlib.Omega.{arith}
 use borrow.Author.Needs.{needs}
 use Rattle.rib_head.proofs.Layouts.{path-size}
 use Rattle.rib_head.proofs.Heads.{path-of}
@@ -11,20 +12,20 @@ layout-of-requires c κs = search needs
 returns : tie.Need-returns
 returns c = path-unwritten _ _ _ _ (path-of _ (c .before .before .layout-of .ensures)) (c .if1 .taken)
 
-put-be32-requires : tie.Need-put-be32-requires
-put-be32-requires c κs = search needs
+store32-requires : tie.Need-store32-requires
+store32-requires c κs = let z = path-size _ (path-of _ (c .before .before .before .layout-of .ensures)) (c .before .if1 .left) in omega arith
 
 same-length : tie.Need-same-length
 same-length c = search needs
 
 returns-2 : tie.Need-returns-2
 returns-2 c =
-    let at-put-be32 = c .before .before in
-    let at-if1 = at-put-be32 .before .before in
+    let at-store32 = c .before .before in
+    let at-if1 = at-store32 .before .before in
     let at-layout-of = at-if1 .before .before in
     path-written _ _ _ _
-    (at-put-be32 .put-be32 .ensures) (path-size _ (path-of _ (at-layout-of .layout-of .ensures)) (at-if1 .if1 .left))
+    (at-store32 .store32 .ensures) (path-size _ (path-of _ (at-layout-of .layout-of .ensures)) (at-if1 .if1 .left))
 
 pub put-path-spec : {M : Type 1} → statement M
 put-path-spec =
-    tie.close (tie.spec layout-of-requires returns put-be32-requires same-length returns-2)
+    tie.close (tie.spec layout-of-requires returns store32-requires same-length returns-2)
