@@ -1,8 +1,43 @@
-// Octets copied from one lent place to another. Where the output ends, octets are dropped, so that every call answers.
+// Octets and numbers stored whole where there is room for them. Where the output ends, octets are dropped, so that every call answers.
 ghost use mathlib.Core.Path.{_≡_};
 ghost use Prim.Native.Nat.{_+_, _≤_, min};
+ghost use lib.Dec.{leb};
 ghost use lib.ListN.{length, take};
-ghost use Rattle.octets.specs.Octets.{part, patch};
+ghost use Rattle.octets.specs.Octets.{bytesOf, part, patch};
+
+// Whether m octets from an offset on lie within n.
+pub fn has_room(n: usize, at: usize, m: usize) -> bool
+    ensures answer { λ r. ⌜ r ≡ leb (at + m) n ⌝ }
+{
+    if n < m {
+        return false;
+    }
+    at <= n - m
+}
+
+// Stores a number of two octets. In a part whose length is written out no octet is tested for room.
+pub fn store16(out: &mut [u8], at: usize, v: u16)
+    ensures { λ _. ⌜ now (out .exit) ≡ patch (now (out .entry)) at (bytesOf 2 v) ⌝ }
+{
+    if !has_room(out.len(), at, 2) {
+        octets::put_be16(out, at, v);
+        return;
+    }
+    let end = at + 2;
+    octets::put_be16(&mut out[at..end], 0, v);
+}
+
+// Stores a number of four octets.
+pub fn store32(out: &mut [u8], at: usize, v: u32)
+    ensures { λ _. ⌜ now (out .exit) ≡ patch (now (out .entry)) at (bytesOf 4 v) ⌝ }
+{
+    if !has_room(out.len(), at, 4) {
+        octets::put_be32(out, at, v);
+        return;
+    }
+    let end = at + 4;
+    octets::put_be32(&mut out[at..end], 0, v);
+}
 
 // Copies octets: sixteen at a time where there are so many.
 pub fn put_octets(out: &mut [u8], at: usize, src: &[u8])

@@ -37,14 +37,13 @@ octets-join s at n zero = rw (add-zero, append-nil)
 octets-join s at n (suc m) = rw (add-suc, ← octets-join s at n m, ← append-assoc, add-assoc at n m)
 
 -- ---- copying: four octets as one number
-pub four-stored : (s l : List ℕ) (to at : ℕ) {t : List ℕ} {v : ℕ} → Octets l → to + 4 ≤ length s → at + 4 ≤ length l
+pub four-stored : (s l : List ℕ) (to at : ℕ) {t : List ℕ} {v : ℕ} → Octets l → at + 4 ≤ length l
     → v ≡ beAt (part l at (at + 4 - at)) 0 4
-    → t ≡ patch (part s to (to + 4 - to)) 0 (bytesOf 4 v)
-    → take to s ++ (t ++ drop (to + 4 - to) (drop to s)) ≡ patch s to (octetsAt l at 4)
-four-stored s l to at {t} {v} o h k e f =
+    → t ≡ patch s to (bytesOf 4 v)
+    → t ≡ patch s to (octetsAt l at 4)
+four-stored s l to at {t} {v} o k e f =
     let b : beAt (part l at (at + 4 - at)) 0 4 ≡ beAt l at 4 = be-front l at (at + 4) 4 (omega arith) in
-    patch-lent s to (to + 4) 4 (bytesOf 4 v) (length-bytes 4 v) h (omega arith) f
-    ∙ ap (patch s to) (ap (bytesOf 4) (e ∙ b) ∙ bytes-of-be l at 4 o k ∙ sym (octets-part l at 4 k))
+    f ∙ ap (patch s to) (ap (bytesOf 4) (e ∙ b) ∙ bytes-of-be l at 4 o k ∙ sym (octets-part l at 4 k))
 
 -- s has n octets of an address at to, and then the m after them
 stored-join : (s l : List ℕ) (to at n m : ℕ) {t u : List ℕ} → t ≡ patch s to (octetsAt l at n) → u ≡ patch t (to + n) (octetsAt l (at + n) m)

@@ -41,15 +41,13 @@ bytes-cut v =
     let l : v % 65536 % 256 ≡ v % 256 = omega arith in
     rw (h, l)
 
--- the high half and then the low one in the last two octets, each stored in a part
-pub as-stored : (s : List ℕ) (at kind asn : ℕ) {w : ℕ} {x y : List ℕ} → w ≡ asSize kind → at + asSize kind ≤ length s
-    → x ≡ patch (part s at (at + 2 - at)) 0 (bytesOf 2 (asn / 65536))
-    → y ≡ patch (part (take at s ++ (x ++ drop (at + 2 - at) (drop at s))) (at + w - 2) (at + w - (at + w - 2))) 0 (bytesOf 2 (asn % 65536))
-    → take (at + w - 2) (take at s ++ (x ++ drop (at + 2 - at) (drop at s)))
-    ++ (y ++ drop (at + w - (at + w - 2)) (drop (at + w - 2) (take at s ++ (x ++ drop (at + 2 - at) (drop at s)))))
-    ≡ patch s at (bytesOf (asSize kind) asn)
+-- the high half and then the low one in the last two octets
+pub as-stored : (s : List ℕ) (at kind asn : ℕ) {w : ℕ} {t u : List ℕ} → w ≡ asSize kind → at + asSize kind ≤ length s
+    → t ≡ patch s at (bytesOf 2 (asn / 65536))
+    → u ≡ patch t (at + w - 2) (bytesOf 2 (asn % 65536))
+    → u ≡ patch s at (bytesOf (asSize kind) asn)
 unfolding asSize
-as-stored s at kind asn {w} {x} {y} sized fits e f = case (wide kind) refl
+as-stored s at kind asn {w} {t} {u} sized fits first last = case (wide kind) refl
   where
     high : List ℕ
     high = bytesOf 2 (asn / 65536)
@@ -57,19 +55,7 @@ as-stored s at kind asn {w} {x} {y} sized fits e f = case (wide kind) refl
     low : List ℕ
     low = bytesOf 2 (asn % 65536)
 
-    t : List ℕ
-    t = take at s ++ (x ++ drop (at + 2 - at) (drop at s))
-
-    first : t ≡ patch s at high
-    first = let l = as-least kind in patch-lent s at (at + 2) 2 high (length-bytes 2 (asn / 65536)) (omega arith) (omega arith) e
-
-    last : take (at + w - 2) t ++ (y ++ drop (at + w - (at + w - 2)) (drop (at + w - 2) t)) ≡ patch t (at + w - 2) low
-    last =
-        let l = as-least kind in
-        let n : length t ≡ length s = ap length first ∙ length-patch s at high in
-        patch-lent t (at + w - 2) (at + w) 2 low (length-bytes 2 (asn % 65536)) (omega arith) (omega arith) f
-
-    case : (z : Bool) → wide kind ≡ z → take (at + w - 2) t ++ (y ++ drop (at + w - (at + w - 2)) (drop (at + w - 2) t)) ≡ patch s at (bytesOf (asSize kind) asn)
+    case : (z : Bool) → wide kind ≡ z → u ≡ patch s at (bytesOf (asSize kind) asn)
     case true z =
         let k : asSize kind ≡ 4 = simp z in
         let m : at + w - 2 ≡ at + 2 = omega arith in
@@ -142,21 +128,17 @@ module _ (s : List ℕ) (at : ℕ) (p : Peer) where
     put-late h l = without (omega arith)
 
     pub put-whole : {a : ℕ} {t u v w : List ℕ} → z ≤ length s → at ≤ length s - z → a ≡ addressSize (p .kind) → t ≡ patch s at (p .kind
-        ∷ []) → u ≡ patch (part t (at + 1) (at + 5 - (at + 1))) 0 (bytesOf 4 (p .id))
-        → v ≡ patch (take (at + 1) t ++ (u ++ drop (at + 5 - (at + 1)) (drop (at + 1) t))) (at + 5) (octetsAt (p .addr) 0 (addressSize (p .kind))) → w ≡ patch v (at + 5 + a) (bytesOf (asSize (p .kind)) (p .asn))
+        ∷ []) → u ≡ patch t (at + 1) (bytesOf 4 (p .id))
+        → v ≡ patch u (at + 5) (octetsAt (p .addr) 0 (addressSize (p .kind))) → w ≡ patch v (at + 5 + a) (bytesOf (asSize (p .kind)) (p .asn))
         → (w, at + z) ≡ putPeer s at p
     unfolding putPeer peerOctets
     put-whole {a} {t} {u} {v} {w} h k ha ht hu hv hw =
         let kinds : List ℕ = p .kind ∷ [] in
         let ids : List ℕ = bytesOf 4 (p .id) in
         let address : List ℕ = octetsAt (p .addr) 0 a in
-        let room : length t ≡ length s = ap length ht ∙ length-patch s at kinds in
-        let k5 : 5 ≤ peerSize (p .kind) = (let q = size-is (p .kind) in omega arith) in
-        let x : List ℕ = take (at + 1) t ++ (u ++ drop (at + 5 - (at + 1)) (drop (at + 1) t)) in
-        let id : x ≡ patch t (at + 1) ids = patch-lent t (at + 1) (at + 5) 4 ids (length-bytes 4 (p .id)) (omega arith) (omega arith) hu in
-        let first : x ≡ patch s at (kinds ++ ids) = stores s at 1 kinds ids refl ht id in
+        let first : u ≡ patch s at (kinds ++ ids) = stores s at 1 kinds ids refl ht hu in
         let five : length (kinds ++ ids) ≡ 5 = length-append kinds ids ∙ ap (λ (n : ℕ). 1 + n) (length-bytes 4 (p .id)) in
-        let there : v ≡ patch x (at + 5) address = hv ∙ ap (λ (n : ℕ). patch x (at + 5) (octetsAt (p .addr) 0 n)) (sym ha) in
+        let there : v ≡ patch u (at + 5) address = hv ∙ ap (λ (n : ℕ). patch u (at + 5) (octetsAt (p .addr) 0 n)) (sym ha) in
         let then : v ≡ patch s at (kinds ++ ids ++ address) = stores s at 5 (kinds ++ ids) address five first there in
         let more : length (kinds ++ ids ++ address) ≡ 5 + a = length-append (kinds ++ ids) address
         ∙ (let o : length address ≡ a = length-octets (p .addr) 0 a in omega arith) in

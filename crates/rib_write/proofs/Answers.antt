@@ -86,17 +86,6 @@ count-room {count} l n = by-test (ltb count 65535) refl
     by-test true e = let h = ltb-true count 65535 e in omega arith
     by-test false e = let h = ltb-false count 65535 e in absurd (n (omega arith))
 
--- a count within so many octets
-pub count-short : (len at : ℕ) → len < 2 → false ≡ leb (at + 2) len
-count-short len at h = sym (lt-leb (at + 2) len (omega arith))
-
-pub count-rest : (len at : ℕ) → 2 ≤ len → leb at (len - 2) ≡ leb (at + 2) len
-count-rest len at h = by-test (leb at (len - 2)) refl
-  where
-    by-test : (b : Bool) → leb at (len - 2) ≡ b → b ≡ leb (at + 2) len
-    by-test true e = let l = leb-true at (len - 2) e in sym (le-leb (at + 2) len (omega arith))
-    by-test false e = let l = leb-false at (len - 2) e in sym (lt-leb (at + 2) len (omega arith))
-
 -- pushing an entry
 module _ (s : List ℕ) (t : ℕ) (b : Builder) (e : NewEntry) (l : List ℕ) where
   -- a builder beyond the output, and a count beyond its body

@@ -77,7 +77,7 @@ pub fn push_entry(
     if n < len {
         return BuilderAnswer::Refused(Refusal::Beyond);
     }
-    if !holds_count(len, b.at) {
+    if !copies::has_room(len, b.at, 2) {
         return BuilderAnswer::Refused(Refusal::Beyond);
     }
     let l = rib_head::layout_of(subtype);
@@ -100,16 +100,6 @@ pub fn push_entry(
     })
 }
 
-// Whether a count that stands at an offset lies within so many octets.
-fn holds_count(len: usize, at: usize) -> bool
-    ensures { λ r. ⌜ r ≡ leb (at + 2) len ⌝ }
-{
-    if len < 2 {
-        return false;
-    }
-    at <= len - 2
-}
-
 // Whether a value does not fit its field: one entry more, the path number, the attributes' length.
 fn is_unfit(count: u16, subtype: u16, path: u32, m: usize) -> bool
     ensures { λ r. ⌜ r ≡ unfit count subtype path m ⌝ }
@@ -127,45 +117,27 @@ fn is_unfit(count: u16, subtype: u16, path: u32, m: usize) -> bool
     path != 0
 }
 
-// The entry at the front of the part that starts at the body's end, where there is room for it.
+// The entry at the front of the part that starts at the body's end.
 fn put_entry(part: &mut [u8], subtype: u16, e: NewEntry, attributes: &[u8])
-    requires { ⌜ (length (now attributes) ≤ 65535) × (8 + pathSize subtype ≤ length (now part)) ⌝ }
+    requires { ⌜ length (now attributes) ≤ 65535 ⌝ }
     ensures { λ _. ⌜ now (part .exit) ≡ patch (now (part .entry)) 0 (entryOctets (pathSize subtype) e (now (attributes .entry))) ⌝ }
 {
     let l = rib_head::layout_of(subtype);
     let size = l.path;
-    store16(part, 0, e.peer);
-    store32(part, 2, e.originated);
+    copies::store16(part, 0, e.peer);
+    copies::store32(part, 2, e.originated);
     put_path(part, subtype, 6, e.path);
-    store16(part, 6 + size, attributes.len() as u16);
+    copies::store16(part, 6 + size, attributes.len() as u16);
     copies::put_octets(part, 8 + size, attributes);
 }
 
 // The path number, where the subtype has one.
 fn put_path(part: &mut [u8], subtype: u16, at: usize, v: u32)
-    requires { ⌜ at + pathSize subtype ≤ length (now part) ⌝ }
     ensures { λ _. ⌜ now (part .exit) ≡ patch (now (part .entry)) at (bytesOf (pathSize subtype) v) ⌝ }
 {
     let l = rib_head::layout_of(subtype);
     if l.path == 0 {
         return;
     }
-    store32(part, at, v);
-}
-
-// A number where there is room for it. A part whose length is written out leaves no octet to test for room.
-fn store16(part: &mut [u8], at: usize, v: u16)
-    requires { ⌜ at + 2 ≤ length (now part) ⌝ }
-    ensures { λ _. ⌜ now (part .exit) ≡ patch (now (part .entry)) at (bytesOf 2 v) ⌝ }
-{
-    let end = at + 2;
-    octets::put_be16(&mut part[at..end], 0, v);
-}
-
-fn store32(part: &mut [u8], at: usize, v: u32)
-    requires { ⌜ at + 4 ≤ length (now part) ⌝ }
-    ensures { λ _. ⌜ now (part .exit) ≡ patch (now (part .entry)) at (bytesOf 4 v) ⌝ }
-{
-    let end = at + 4;
-    octets::put_be32(&mut part[at..end], 0, v);
+    copies::store32(part, at, v);
 }

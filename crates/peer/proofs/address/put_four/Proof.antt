@@ -3,9 +3,6 @@ use borrow.Author.Needs.{needs}
 use Rattle.peer.proofs.address.put_four.Statement.{statement}
 use Rattle.peer.proofs.address.put_four.Tie as tie
 
-add-end : tie.Need-add-end
-add-end c = search needs
-
 add-stop : tie.Need-add-stop
 add-stop c = search needs
 
@@ -21,38 +18,24 @@ part-be32-end c = search needs
 be32-requires : tie.Need-be32-requires
 be32-requires c κs = search needs
 
-sub-put-be32 : tie.Need-sub-put-be32
-sub-put-be32 c = search needs
-
-part-put-be32-start : tie.Need-part-put-be32-start
-part-put-be32-start c = search needs
-
-part-put-be32-end : tie.Need-part-put-be32-end
-part-put-be32-end c = search needs
-
-put-be32-requires : tie.Need-put-be32-requires
-put-be32-requires c κs = search needs
+put-word-requires : tie.Need-put-word-requires
+put-word-requires c κs = search needs
 
 same-length : tie.Need-same-length
 same-length c = search needs
 
 returns : tie.Need-returns
-returns c = four-stored _ _ _ _ (λ i. c .before .before .before .before .before .before .shared-slice-known .given i .fits) (c .before .before .before .before .before .before .before .before .pre .0) (c .before .before .before .before .before .before .before .before .pre .1)
-    (c .before .before .before .before .be32 .ensures) (c .before .before .put-be32 .ensures)
+returns c = four-stored _ _ _ _ (λ i. c .before .before .before .before .before .before .shared-slice-known .given i .fits) (c .before .before .before .before .before .before .before .before .pre .1) (c .before .before .before .be32 .ensures) (c .before .before .put-word .ensures)
 
 pub put-four-spec : {M : Type 1} → statement M
 put-four-spec =
     tie.close
     (tie.spec
-    add-end
     add-stop
     sub-be32
     part-be32-start
     part-be32-end
     be32-requires
-    sub-put-be32
-    part-put-be32-start
-    part-put-be32-end
-    put-be32-requires
+    put-word-requires
     same-length
     returns)

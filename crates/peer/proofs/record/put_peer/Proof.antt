@@ -23,35 +23,35 @@ address-size-requires c κs = search needs
 put-octet-requires : tie.Need-put-octet-requires
 put-octet-requires c κs = search needs
 
-add-start : tie.Need-add-start
-add-start c = search needs
+add-put-word : tie.Need-add-put-word
+add-put-word c = search needs
+
+put-word-requires : tie.Need-put-word-requires
+put-word-requires c κs = omega (arith, size-is (c .before .before .before .before .before .before .before .before .before .before .args .p .kind), ap length (c .before .before .before .put-octet .ensures) ∙ length-patch _ _ _)
 
 add-front : tie.Need-add-front
 add-front c = search needs
-
-sub-put-be32 : tie.Need-sub-put-be32
-sub-put-be32 c = search needs
-
-part-put-be32-start : tie.Need-part-put-be32-start
-part-put-be32-start c = search needs
-
-part-put-be32-end : tie.Need-part-put-be32-end
-part-put-be32-end c = omega (arith, size-is (c .before .before .before .before .before .before .before .before .before .args .p .kind), ap length (c .before .before .put-octet .ensures) ∙ length-patch _ _ _)
-
-put-be32-requires : tie.Need-put-be32-requires
-put-be32-requires c κs = search needs
 
 slice-aggregate-put-address : tie.Need-slice-aggregate-put-address
 slice-aggregate-put-address c = search needs
 
 put-address-requires : tie.Need-put-address-requires
-put-address-requires c κs = let e : 16 ≡ length (c .before .before .before .before .before .before .before .before .before .before .before .before .before .before .before .before .args .p .addr) = slice-aggregate-put-address c in (omega (arith, size-is (c .before .before .before .before .before .before .before .before .before .before .before .before .before .before .before .before .args .p .kind), ap length (c .before .before .before .before .before .before .before .before .before .put-octet .ensures) ∙ length-patch _ _ _), omega (arith, address-le (c .before .before .before .before .before .before .before .before .before .before .before .before .before .before .before .before .args .p .kind)))
+put-address-requires c κs =
+    let start = c .before .before .before .before .before .before .before .before .before .before .before .before .before .before .before .before .args in
+    let e : 16 ≡ length (start .p .addr) = slice-aggregate-put-address c in (
+      omega (arith, size-is (start .p .kind), ap length (c .before .before .before .before .before .put-word .ensures) ∙ length-patch _ _ _, ap length (c .before .before .before .before .before .before .before .before .before .put-octet .ensures) ∙ length-patch _ _ _),
+      omega (arith, address-le (start .p .kind)),
+    )
 
 add-put-as : tie.Need-add-put-as
-add-put-as c = omega (arith, address-le (c .before .before .before .before .before .before .before .before .before .before .before .before .before .before .before .before .before .before .before .before .args .p .kind), size-is (c .before .before .before .before .before .before .before .before .before .before .before .before .before .before .before .before .before .before .before .before .args .p .kind))
+add-put-as c =
+    let start = c .before .before .before .before .before .before .before .before .before .before .before .before .before .before .before .before .before .before .before .before .args in
+    omega (arith, address-le (start .p .kind), size-is (start .p .kind))
 
 put-as-requires : tie.Need-put-as-requires
-put-as-requires c κs = omega (arith, size-is (c .before .before .before .before .before .before .before .before .before .before .before .before .before .before .before .before .before .before .before .before .args .p .kind), ap length (c .before .before .before .before .before .before .before .before .before .before .before .before .before .put-octet .ensures) ∙ length-patch _ _ _, ap length (c .before .before .before .put-address .ensures) ∙ length-patch _ _ _)
+put-as-requires c κs =
+    let start = c .before .before .before .before .before .before .before .before .before .before .before .before .before .before .before .before .before .before .before .before .args in
+    omega (arith, size-is (start .p .kind), ap length (c .before .before .before .put-address .ensures) ∙ length-patch _ _ _, ap length (c .before .before .before .before .before .before .before .before .before .put-word .ensures) ∙ length-patch _ _ _, ap length (c .before .before .before .before .before .before .before .before .before .before .before .before .before .put-octet .ensures) ∙ length-patch _ _ _)
 
 add-result : tie.Need-add-result
 add-result c = search needs
@@ -61,9 +61,11 @@ same-length c = search needs
 
 returns-3 : tie.Need-returns-3
 returns-3 c =
-    let d = c .before .before .before .before .before .before .before .before .before .before .before .before in
-    put-whole _ _ _ (d .before .before .before .before .before .before .before .before .before .peer-size .ensures) (d .before .before .before .before .before .before .before .before .if1 .left) (d .before .before .before .before .before .before .before .if2 .left)
-    (d .before .before .before .before .before .before .address-size .ensures) (d .before .before .before .before .put-octet .ensures) (d .put-be32 .ensures) (c .before .before .before .before .before .before .put-address .ensures) (c .before .before .put-as .ensures)
+    let at-word = c .before .before .before .before .before .before .before .before .before .before .before .before in
+    let at-octet = at-word .before .before .before .before in
+    let at-if2 = at-octet .before .before .before in
+    put-whole _ _ _ (at-if2 .before .before .peer-size .ensures) (at-if2 .before .if1 .left) (at-if2 .if2 .left) (at-octet .before .before .address-size .ensures)
+    (at-octet .put-octet .ensures) (at-word .put-word .ensures) (c .before .before .before .before .before .before .put-address .ensures) (c .before .before .put-as .ensures)
 
 pub put-peer-spec : {M : Type 1} → statement M
 put-peer-spec =
@@ -74,12 +76,9 @@ put-peer-spec =
     returns-2
     address-size-requires
     put-octet-requires
-    add-start
+    add-put-word
+    put-word-requires
     add-front
-    sub-put-be32
-    part-put-be32-start
-    part-put-be32-end
-    put-be32-requires
     slice-aggregate-put-address
     put-address-requires
     add-put-as

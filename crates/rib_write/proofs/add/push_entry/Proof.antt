@@ -1,8 +1,6 @@
-use Prim.Native.Nat.{_-_, _<_}
-use lib.ListN.{length}
+use Prim.Native.Nat.{_<_}
 use native.Mathlib.Omega.{arith}
 use borrow.Author.Needs.{needs}
-use Rattle.octets.proofs.Parts.{length-part}
 use Rattle.rib_head.proofs.Layouts.{path-size-le}
 use Rattle.rib_head.proofs.Heads.{carried-not, carried-so, path-of}
 use Rattle.rib_write.proofs.Answers.{fit-count, count-room, push-beyond, push-uncounted}
@@ -14,11 +12,11 @@ use Rattle.rib_write.proofs.add.push_entry.Tie as tie
 returns : tie.Need-returns
 returns c = push-beyond _ _ _ _ _ (c .if1 .taken)
 
-holds-count-requires : tie.Need-holds-count-requires
-holds-count-requires c κs = search needs
+has-room-requires : tie.Need-has-room-requires
+has-room-requires c κs = search needs
 
 returns-2 : tie.Need-returns-2
-returns-2 c = push-uncounted _ _ _ _ _ (c .before .before .if1 .left) (c .before .holds-count .ensures) (c .if2 .taken)
+returns-2 c = push-uncounted _ _ _ _ _ (c .before .before .if1 .left) (c .before .has-room .ensures) (c .if2 .taken)
 
 layout-of-requires : tie.Need-layout-of-requires
 layout-of-requires c κs = search needs
@@ -27,10 +25,10 @@ returns-3 : tie.Need-returns-3
 returns-3 c =
     let at-layout-of = c .before .before in
     let at-if2 = at-layout-of .before in
-    let at-holds-count = at-if2 .before in
-    let at-if1 = at-holds-count .before in
+    let at-has-room = at-if2 .before in
+    let at-if1 = at-has-room .before in
     push-other _ _ _ _ _
-    (at-if1 .if1 .left) (at-holds-count .holds-count .ensures) (at-if2 .if2 .left)
+    (at-if1 .if1 .left) (at-has-room .has-room .ensures) (at-if2 .if2 .left)
     (carried-not _ (at-layout-of .layout-of .ensures) (c .if3 .taken))
 
 is-unfit-requires : tie.Need-is-unfit-requires
@@ -41,10 +39,10 @@ returns-4 c =
     let at-if3 = c .before .before in
     let at-layout-of = at-if3 .before .before in
     let at-if2 = at-layout-of .before in
-    let at-holds-count = at-if2 .before in
-    let at-if1 = at-holds-count .before in
+    let at-has-room = at-if2 .before in
+    let at-if1 = at-has-room .before in
     push-unfit _ _ _ _ _
-    (at-if1 .if1 .left) (at-holds-count .holds-count .ensures) (at-if2 .if2 .left)
+    (at-if1 .if1 .left) (at-has-room .has-room .ensures) (at-if2 .if2 .left)
     (carried-so _ (at-layout-of .layout-of .ensures) (at-if3 .if3 .left)) (c .before .is-unfit .ensures) (c .if4 .taken)
 
 add-size : tie.Need-add-size
@@ -72,10 +70,10 @@ returns-5 c =
     let at-if3 = at-is-unfit .before in
     let at-layout-of = at-if3 .before .before in
     let at-if2 = at-layout-of .before in
-    let at-holds-count = at-if2 .before in
-    let at-if1 = at-holds-count .before in
+    let at-has-room = at-if2 .before in
+    let at-if1 = at-has-room .before in
     push-full _ _ _ _ _
-    (at-if1 .if1 .left) (at-holds-count .holds-count .ensures) (at-if2 .if2 .left)
+    (at-if1 .if1 .left) (at-has-room .has-room .ensures) (at-if2 .if2 .left)
     (carried-so _ (at-layout-of .layout-of .ensures) (at-if3 .if3 .left)) (at-is-unfit .is-unfit .ensures) (at-if4 .if4 .left)
     (path-of _ (at-layout-of .layout-of .ensures)) (c .if5 .taken)
 
@@ -92,15 +90,7 @@ put-entry-requires : tie.Need-put-entry-requires
 put-entry-requires c κs =
     let at-if4 = c .before .before .before in
     let at-is-unfit = at-if4 .before in
-    let at-if3 = at-is-unfit .before in
-    let at-layout-of = at-if3 .before .before in
-    let at-if2 = at-layout-of .before in
-    let at-if1 = at-if2 .before .before in
-    let start = at-if1 .before .before .before .args in
-    let there = length-part (start .out .now) (start .b .len) (length (start .out .now) - start .b .len) (omega (arith, at-if1 .if1 .left)) in (
-      fit-count _ _ _ _ (at-is-unfit .is-unfit .ensures) (at-if4 .if4 .left) .1,
-      omega (arith, there, path-of _ (at-layout-of .layout-of .ensures), c .before .if5 .left),
-    )
+    fit-count _ _ _ _ (at-is-unfit .is-unfit .ensures) (at-if4 .if4 .left) .1
 
 add-put-be16 : tie.Need-add-put-be16
 add-put-be16 c =
@@ -137,10 +127,10 @@ returns-6 c =
     let at-if3 = at-is-unfit .before in
     let at-layout-of = at-if3 .before .before in
     let at-if2 = at-layout-of .before in
-    let at-holds-count = at-if2 .before in
-    let at-if1 = at-holds-count .before in
+    let at-has-room = at-if2 .before in
+    let at-if1 = at-has-room .before in
     push-done _ _ _ _ _
-    (at-if1 .if1 .left) (at-holds-count .holds-count .ensures) (at-if2 .if2 .left)
+    (at-if1 .if1 .left) (at-has-room .has-room .ensures) (at-if2 .if2 .left)
     (carried-so _ (at-layout-of .layout-of .ensures) (at-if3 .if3 .left)) (at-is-unfit .is-unfit .ensures) (at-if4 .if4 .left)
     (path-of _ (at-layout-of .layout-of .ensures)) (at-if5 .if5 .left)
     (part-stored _ _ _ (at-if1 .if1 .left) (at-put-entry .put-entry .ensures)) (at-put-be16 .put-be16 .ensures)
@@ -150,7 +140,7 @@ push-entry-spec =
     tie.close
     (tie.spec
     returns
-    holds-count-requires
+    has-room-requires
     returns-2
     layout-of-requires
     returns-3

@@ -1,8 +1,5 @@
-use mathlib.Core.Path.{_∙_, ap}
 use native.Mathlib.Omega.{arith}
-use lib.ListN.{length}
 use borrow.Author.Needs.{needs}
-use Rattle.octets.proofs.Stores.{length-patch}
 use Rattle.rib_head.proofs.Layouts.{path-size-le}
 use Rattle.rib_head.proofs.Heads.{path-of}
 use Rattle.rib_write.proofs.Written.{entry-stored}
@@ -31,13 +28,7 @@ cast-store16 : tie.Need-cast-store16
 cast-store16 c = search needs
 
 store16-requires-2 : tie.Need-store16-requires-2
-store16-requires-2 c κs =
-    let at-put-path = c .before .before .before in
-    let at-store32 = at-put-path .before .before .before .before in
-    let at-store16 = at-store32 .before .before .before .before in
-    let at-layout-of = at-store16 .before .before in
-    let stored = ap length (at-put-path .put-path .ensures) ∙ length-patch _ _ _ ∙ ap length (at-store32 .store32 .ensures) ∙ length-patch _ _ _ ∙ ap length (at-store16 .store16 .ensures) ∙ length-patch _ _ _ in
-    omega (arith, stored, path-of _ (at-layout-of .layout-of .ensures), at-layout-of .before .before .before .pre .1)
+store16-requires-2 c κs = search needs
 
 add-put-octets : tie.Need-add-put-octets
 add-put-octets c =

@@ -1,4 +1,3 @@
-use native.Mathlib.Omega.{arith}
 use borrow.Author.Needs.{needs}
 use Rattle.rib_head.proofs.Layouts.{path-size}
 use Rattle.rib_head.proofs.Heads.{path-of}
@@ -13,7 +12,7 @@ returns : tie.Need-returns
 returns c = path-unwritten _ _ _ _ (path-of _ (c .before .before .layout-of .ensures)) (c .if1 .taken)
 
 store32-requires : tie.Need-store32-requires
-store32-requires c κs = let z = path-size _ (path-of _ (c .before .before .before .layout-of .ensures)) (c .before .if1 .left) in omega arith
+store32-requires c κs = search needs
 
 same-length : tie.Need-same-length
 same-length c = search needs

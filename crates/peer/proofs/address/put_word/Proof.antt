@@ -2,8 +2,8 @@ use native.Mathlib.Omega.{arith}
 use Rattle.octets.proofs.Numbers.{length-bytes}
 use Rattle.octets.proofs.Parts.{patch-lent}
 use borrow.Author.Needs.{needs}
-use Rattle.rib_write.proofs.add.store32.Statement.{statement}
-use Rattle.rib_write.proofs.add.store32.Tie as tie
+use Rattle.peer.proofs.address.put_word.Statement.{statement}
+use Rattle.peer.proofs.address.put_word.Tie as tie
 
 add-end : tie.Need-add-end
 add-end c = search needs
@@ -26,8 +26,8 @@ same-length c = search needs
 returns : tie.Need-returns
 returns c = patch-lent _ _ _ 4 _ (length-bytes 4 _) (omega arith) (omega arith) (c .before .before .put-be32 .ensures)
 
-pub store32-spec : {M : Type 1} → statement M
-store32-spec =
+pub put-word-spec : {M : Type 1} → statement M
+put-word-spec =
     tie.close
     (tie.spec
     add-end

@@ -2,8 +2,8 @@ use native.Mathlib.Omega.{arith}
 use Rattle.octets.proofs.Numbers.{length-bytes}
 use Rattle.octets.proofs.Parts.{patch-lent}
 use borrow.Author.Needs.{needs}
-use Rattle.rib_write.proofs.add.store16.Statement.{statement}
-use Rattle.rib_write.proofs.add.store16.Tie as tie
+use Rattle.peer.proofs.record.put_half.Statement.{statement}
+use Rattle.peer.proofs.record.put_half.Tie as tie
 
 add-end : tie.Need-add-end
 add-end c = search needs
@@ -26,8 +26,8 @@ same-length c = search needs
 returns : tie.Need-returns
 returns c = patch-lent _ _ _ 2 _ (length-bytes 2 _) (omega arith) (omega arith) (c .before .before .put-be16 .ensures)
 
-pub store16-spec : {M : Type 1} → statement M
-store16-spec =
+pub put-half-spec : {M : Type 1} → statement M
+put-half-spec =
     tie.close
     (tie.spec
     add-end

@@ -1,0 +1,2 @@
+-- Rooms: whether octets lie within others.
+mod Rooms
