@@ -1,19 +1,19 @@
 -- Octets of an address: copied, read into sixteen, and compared.
-use Prim.Native.Nat.{ℕ, zero, suc, _+_, _-_, _<_, _≤_}
+use Prim.Native.Nat.{ℕ, zero, suc, _+_, _-_, _*_, _<_, _≤_}
 use mathlib.Core.Path.{_≡_, refl, sym, _∙_, ap}
 use mathlib.Core.List.{List, [], _∷_, _++_, append-assoc, append-nil}
 use mathlib.Core.Bool.{Bool, true, false, _&&_, and-true, and-false, and-assoc}
 use native.Mathlib.Nat.{add-zero, add-suc, add-assoc}
 use native.Mathlib.Numerals.{add-one}
 use native.Mathlib.Omega.{arith}
-use borrow.Author.Tests.{eq-eqb, ne-eqb, eqb-true}
+use borrow.Author.Tests.{eq-eqb, ne-eqb, eqb-true, eqb-false}
 use lib.ListN.{length, getD, take, drop, replicate, length-append, length-drop}
 use lib.Seq.{take-suc, getD-drop}
 use lib.Dec.{eqb}
 use Rattle.octets.specs.Octets.{beAt, bytesOf, patch, part, Octets}
-use Rattle.octets.proofs.Numbers.{be-same, bytes-of-be, length-bytes}
+use Rattle.octets.proofs.Numbers.{be-halves, be-one, be-same, bytes-of-be}
 use Rattle.octets.proofs.Stores.{patch-front, stores}
-use Rattle.octets.proofs.Parts.{be-front, patch-lent, drop-replicate}
+use Rattle.octets.proofs.Parts.{be-front, drop-replicate}
 use Rattle.peer.specs.Peer.{addressSize, octetsAt, addressAt, sameOctets}
 use Rattle.peer.proofs.Sizes.{address-either, address-le}
 
@@ -74,77 +74,109 @@ address-read s at kind e =
     e ∙ patch-front (replicate 16 0) x h ∙ ap (λ (r : List ℕ). x ++ r) (drop-replicate (length x) 16 0 ∙ ap (λ (k : ℕ). replicate (16 - k) 0) l)
 
 -- ---- comparing: four octets as one number
-module _ (a b : List ℕ) where
-  -- the same octets are the same number, over the width
-  both : (x y : Bool) → (x && y) ≡ true → (x ≡ true) × (y ≡ true)
-  both true true e = (refl, refl)
-  both true false e = absurd (let z : _≡_ {A = ℕ} 0 1 = cc in omega arith)
-  both false y e = absurd (let z : _≡_ {A = ℕ} 0 1 = cc in omega arith)
+-- the first octet lowest
+abbrev low : List ℕ → ℕ → ℕ
+low s at = getD s at 0 + 256 * (getD s (at + 1) 0 + 256 * (getD s (at + 2) 0 + 256 * getD s (at + 3) 0))
 
-  same-number : (n : ℕ) → sameOctets n a b ≡ true → beAt a 0 n ≡ beAt b 0 n
-  unfolding sameOctets beAt
-  same-number zero e = refl
-  same-number (suc n) e =
-      let h = both (sameOctets n a b) (eqb (getD a n 0) (getD b n 0)) e in
-      let k : 0 + n ≡ n = omega arith in
-      let o : getD a n 0 ≡ getD b n 0 = eqb-true _ _ (h .1) in
-      let m : beAt a 0 n ≡ beAt b 0 n = same-number n (h .0) in
-      rw (k, m, o)
+-- the first octet highest
+high : (s : List ℕ) (at : ℕ) → ((getD s at 0 * 256 + getD s (at + 1) 0) * 256 + getD s (at + 2) 0) * 256 + getD s (at + 3) 0 ≡ beAt s at 4
+high s at = be-halves s at 3 1 (be-halves s at 2 1 (be-halves s at 1 1 (be-one s at) (be-one s (at + 1))) (be-one s (at + 2))) (be-one s (at + 3))
 
-  same-front : (n k : ℕ) → sameOctets (n + k) a b ≡ true → sameOctets n a b ≡ true
-  unfolding sameOctets
-  same-front n zero e = let z : n + 0 ≡ n = omega arith in rw z at e
-  same-front n (suc k) e =
-      let z : n + suc k ≡ suc (n + k) = omega arith in
-      same-front n k (both (sameOctets (n + k) a b) (eqb (getD a (n + k) 0) (getD b (n + k) 0)) (rw z at e) .0)
+-- the lowest octet of a number, and the others
+digit : (x y m n : ℕ) → x < 256 → y < 256 → x + 256 * m ≡ y + 256 * n → (x ≡ y) × (m ≡ n)
+digit x y m n h k e = (omega arith, omega arith)
 
-  pub front-differs : (n : ℕ) → 4 ≤ n → (beAt a 0 4 ≡ beAt b 0 4 → ⊥) → false ≡ sameOctets n a b
-  front-differs n l d = by-test (sameOctets n a b) refl
+module _ (a b : List ℕ) (o : Octets a) (p : Octets b) (at : ℕ) where
+  -- the four octets, where one of the numbers is the same
+  record Fours : Type 0 where
+    first : getD a at 0 ≡ getD b at 0
+    second : getD a (at + 1) 0 ≡ getD b (at + 1) 0
+    third : getD a (at + 2) 0 ≡ getD b (at + 2) 0
+    fourth : getD a (at + 3) 0 ≡ getD b (at + 3) 0
+
+  by-low : low a at ≡ low b at → Fours
+  by-low q =
+      let i = digit (getD a at 0) (getD b at 0) _ _ (o at) (p at) q in
+      let j = digit (getD a (at + 1) 0) (getD b (at + 1) 0) _ _ (o (at + 1)) (p (at + 1)) (i .1) in
+      let k = digit (getD a (at + 2) 0) (getD b (at + 2) 0) _ _ (o (at + 2)) (p (at + 2)) (j .1) in
+      record { first = i .0; second = j .0; third = k .0; fourth = k .1 }
+
+  turned : (x m : ℕ) → x + 256 * m ≡ m * 256 + x
+  turned x m = omega arith
+
+  by-high : beAt a at 4 ≡ beAt b at 4 → Fours
+  by-high q =
+      let whole = high a at ∙ q ∙ sym (high b at) in
+      let i = digit (getD a (at + 3) 0) (getD b (at + 3) 0) _ _ (o (at + 3)) (p (at + 3)) (turned _ _ ∙ whole ∙ sym (turned _ _)) in
+      let j = digit (getD a (at + 2) 0) (getD b (at + 2) 0) _ _ (o (at + 2)) (p (at + 2)) (turned _ _ ∙ i .1 ∙ sym (turned _ _)) in
+      let k = digit (getD a (at + 1) 0) (getD b (at + 1) 0) _ _ (o (at + 1)) (p (at + 1)) (turned _ _ ∙ j .1 ∙ sym (turned _ _)) in
+      record { first = k .1; second = k .0; third = j .0; fourth = i .0 }
+
+  -- both orders tell the same octets apart
+  pub four-same : {x y : ℕ} → x ≡ low a at → y ≡ low b at → eqb x y ≡ eqb (beAt a at 4) (beAt b at 4)
+  four-same {x} {y} e f = by-test (eqb x y) refl
     where
-      by-test : (t : Bool) → sameOctets n a b ≡ t → false ≡ sameOctets n a b
-      by-test true e =
-          let z : 4 + (n - 4) ≡ n = omega arith in
-          absurd (d (same-number 4 (same-front 4 (n - 4) (rw z e))))
-      by-test false e = sym e
+      equal : x ≡ y → beAt a at 4 ≡ beAt b at 4
+      equal q = let s = by-low (sym e ∙ q ∙ f) in sym (high a at) ∙ rw (s .first, s .second, s .third, s .fourth) (high b at)
 
-  module _ (o : Octets a) (p : Octets b) where
-    -- n octets, and the m after them as one number
-    same-join : (n m : ℕ) → (sameOctets n a b && eqb (beAt a n m) (beAt b n m)) ≡ sameOctets (n + m) a b
-    unfolding sameOctets beAt
-    same-join n zero = rw add-zero (and-true (sameOctets n a b))
-    same-join n (suc m) = rw (add-suc, ← same-join n m) (ap (λ (t : Bool). sameOctets n a b && t) (sym (be-same a b n m o p))
-        ∙ sym (and-assoc (sameOctets n a b) (eqb (beAt a n m) (beAt b n m)) (eqb (getD a (n + m) 0) (getD b (n + m) 0))))
+      apart : beAt a at 4 ≡ beAt b at 4 → x ≡ y
+      apart q = let s = by-high q in e ∙ rw (s .first, s .second, s .third, s .fourth) (sym f)
 
-    same-four : eqb (beAt a 0 4) (beAt b 0 4) ≡ sameOctets 4 a b
-    unfolding sameOctets
-    same-four = same-join 0 4
+      by-test : (t : Bool) → eqb x y ≡ t → t ≡ eqb (beAt a at 4) (beAt b at 4)
+      by-test true t = sym (eq-eqb _ _ (equal (eqb-true x y t)))
+      by-test false t = sym (ne-eqb _ _ (λ q. eqb-false x y t (apart q)))
 
-    same-fours : (eqb (beAt a 0 4) (beAt b 0 4) && eqb (beAt a 4 4) (beAt b 4 4) && eqb (beAt a 8 4) (beAt b 8 4) && eqb (beAt a 12 4) (beAt
-        b 12 4)) ≡ sameOctets 16 a b
-    same-fours = rw (same-four, same-join 4 4, same-join 8 4) (same-join 12 4)
+module _ (a b : List ℕ) (o : Octets a) (p : Octets b) where
+  -- n octets, and the m after them as one number
+  same-join : (n m : ℕ) → (sameOctets n a b && eqb (beAt a n m) (beAt b n m)) ≡ sameOctets (n + m) a b
+  unfolding sameOctets beAt
+  same-join n zero = rw add-zero (and-true (sameOctets n a b))
+  same-join n (suc m) = rw (add-suc, ← same-join n m) (ap (λ (t : Bool). sameOctets n a b && t) (sym (be-same a b n m o p))
+      ∙ sym (and-assoc (sameOctets n a b) (eqb (beAt a n m) (beAt b n m)) (eqb (getD a (n + m) 0) (getD b (n + m) 0))))
 
-    -- the numbers as they are read, w the size of the address
-    module _ (kind : ℕ) {w : ℕ} (sized : w ≡ addressSize kind) where
-      pub same-short : {x y : ℕ} → w ≡ 4 → x ≡ beAt a 0 4 → y ≡ beAt b 0 4 → x ≡ y → true ≡ sameOctets (addressSize kind) a b
-      same-short e f g h = sym (ap (λ (n : ℕ). sameOctets n a b) (sym sized ∙ e) ∙ sym same-four ∙ eq-eqb (beAt a 0 4) (beAt b 0 4) (sym f ∙ h
-          ∙ g))
+  -- whether four octets are the same
+  abbrev four : ℕ → Bool
+  four at = eqb (beAt a at 4) (beAt b at 4)
 
-      module _ (long : w ≡ 4 → ⊥) where
-        all-fours : sameOctets (addressSize kind) a b ≡ (eqb (beAt a 0 4) (beAt b 0 4) && eqb (beAt a 4 4) (beAt b 4 4) && eqb (beAt a 8 4)
-            (beAt b 8 4) && eqb (beAt a 12 4) (beAt b 12 4))
-        all-fours = ap (λ (n : ℕ). sameOctets n a b) (address-either kind (λ z. long (sized ∙ z))) ∙ sym same-fours
+  same-first : four 0 ≡ sameOctets 4 a b
+  unfolding sameOctets
+  same-first = same-join 0 4
 
-        pub last-differ : {x y : ℕ} → x ≡ beAt a 12 4 → y ≡ beAt b 12 4 → (x ≡ y → ⊥) → false ≡ sameOctets (addressSize kind) a b
-        last-differ f g h = sym (all-fours ∙ simp (ne-eqb (beAt a 12 4) (beAt b 12 4) (λ z. h (f ∙ z ∙ sym g)), and-false))
+  same-all : (four 0 && four 4 && four 8 && four 12) ≡ sameOctets 16 a b
+  same-all = rw (same-first, same-join 4 4, same-join 8 4) (same-join 12 4)
 
-        pub third-differ : {x y : ℕ} → x ≡ beAt a 8 4 → y ≡ beAt b 8 4 → (x ≡ y → ⊥) → false ≡ sameOctets (addressSize kind) a b
-        third-differ f g h = sym (all-fours ∙ simp (ne-eqb (beAt a 8 4) (beAt b 8 4) (λ z. h (f ∙ z ∙ sym g)), and-false))
+  module _ (kind : ℕ) where
+    all-long : (addressSize kind ≡ 4 → ⊥) → sameOctets (addressSize kind) a b ≡ (four 0 && four 4 && four 8 && four 12)
+    all-long z = ap (λ (n : ℕ). sameOctets n a b) (address-either kind z) ∙ sym same-all
 
-        pub second-decide : {r s t u v w x y : ℕ} → r ≡ beAt a 0 4 → s ≡ beAt b 0 4 → r ≡ s → t ≡ beAt a 12 4 → u ≡ beAt b 12 4 → t ≡ u
-            → v ≡ beAt a 8 4
-            → w ≡ beAt b 8 4 → v ≡ w → x ≡ beAt a 4 4 → y ≡ beAt b 4 4 → eqb x y ≡ sameOctets (addressSize kind) a b
-        second-decide r s e t u f v w g x y =
-            let first : eqb (beAt a 0 4) (beAt b 0 4) ≡ true = eq-eqb _ _ (sym r ∙ e ∙ s) in
-            let last : eqb (beAt a 12 4) (beAt b 12 4) ≡ true = eq-eqb _ _ (sym t ∙ f ∙ u) in
-            let third : eqb (beAt a 8 4) (beAt b 8 4) ≡ true = eq-eqb _ _ (sym v ∙ g ∙ w) in
-            rw (x, y) (sym (all-fours ∙ simp (first, last, third, and-true)))
+    all-short : addressSize kind ≡ 4 → sameOctets (addressSize kind) a b ≡ four 0
+    all-short e = ap (λ (n : ℕ). sameOctets n a b) e ∙ sym same-first
+
+    pub first-apart : {x : Bool} → x ≡ four 0 → x ≡ false → false ≡ sameOctets (addressSize kind) a b
+    first-apart {x} e z = by-size (eqb (addressSize kind) 4) refl
+      where
+        none : four 0 ≡ false
+        none = sym e ∙ z
+
+        by-size : (t : Bool) → eqb (addressSize kind) 4 ≡ t → false ≡ sameOctets (addressSize kind) a b
+        by-size true t = sym (all-short (eqb-true _ _ t) ∙ none)
+        by-size false t = sym (all-long (eqb-false _ _ t) ∙ simp none)
+
+    -- w is the size of the address
+    module _ {w : ℕ} (sized : w ≡ addressSize kind) where
+      pub same-short : {x : Bool} → w ≡ 4 → x ≡ four 0 → x ≡ true → true ≡ sameOctets (addressSize kind) a b
+      same-short k e z = sym (all-short (sym sized ∙ k) ∙ sym e ∙ z)
+
+      module _ (k : w ≡ 4 → ⊥) where
+        fours : sameOctets (addressSize kind) a b ≡ (four 0 && four 4 && four 8 && four 12)
+        fours = all-long (λ y. k (sized ∙ y))
+
+        pub last-apart : {x : Bool} → x ≡ four 12 → x ≡ false → false ≡ sameOctets (addressSize kind) a b
+        last-apart e z = sym (fours ∙ simp (sym e ∙ z, and-false))
+
+        pub third-apart : {x : Bool} → x ≡ four 8 → x ≡ false → false ≡ sameOctets (addressSize kind) a b
+        third-apart e z = sym (fours ∙ simp (sym e ∙ z, and-false))
+
+        pub second-decides : {x y z u : Bool} → x ≡ four 0 → x ≡ true → y ≡ four 12 → y ≡ true → z ≡ four 8 → z ≡ true → u ≡ four 4
+            → u ≡ sameOctets (addressSize kind) a b
+        second-decides x i y j z k u = rw u (sym (fours ∙ simp (sym x ∙ i, sym y ∙ j, sym z ∙ k, and-true)))

@@ -2,7 +2,7 @@
 use Prim.Native.Nat.{ℕ, zero, suc, _+_, _-_, _*_, _/_, _%_, _<_, _≤_}
 use mathlib.Core.Path.{_≡_, refl, sym, _∙_, ap}
 use mathlib.Core.List.{List, [], _∷_, _++_}
-use mathlib.Core.Bool.{Bool, true, false, and-false}
+use mathlib.Core.Bool.{Bool, true, false, and-true, and-false}
 use native.Mathlib.Nat.{add-assoc, le-of-eq}
 use native.Mathlib.Omega.{arith}
 use borrow.Author.Tests.{lt-ltb, le-ltb, le-leb, lt-leb, eq-eqb, ne-eqb}
@@ -16,7 +16,7 @@ use Rattle.peer.specs.Peer.{wide, addressSize, asSize, peerSize, octetsA
 use Rattle.peer.specs.Peer.{sameAddress, peerOctets, putPeer}
 use Rattle.peer.specs.declared.Peer.{Peer}
 use Rattle.peer.proofs.Sizes.{as-either, as-least, address-least, size-is}
-use Rattle.peer.proofs.Addresses.{length-octets, front-differs}
+use Rattle.peer.proofs.Addresses.{length-octets}
 
 -- ---- the AS
 -- its first two octets and its last two, each lent as a part
@@ -100,19 +100,14 @@ unfolding stored
 store-is p l = rw l
 
 -- ---- one address or two
-module _ (p key : Peer) where
-  pub other-family : (p .kind % 2 ≡ key .kind % 2 → ⊥) → false ≡ sameAddress p key
+module _ (p key : Peer) {r : Bool} (e : r ≡ sameOctets (addressSize (key .kind)) (p .addr) (key .addr)) where
+  pub other-octets : r ≡ false → false ≡ sameAddress p key
   unfolding sameAddress
-  other-family e = simp (ne-eqb _ _ e)
+  other-octets z = rw (← e, z) (sym (and-false (eqb (p .kind % 2) (key .kind % 2))))
 
-  pub other-front : (beAt (p .addr) 0 4 ≡ beAt (key .addr) 0 4 → ⊥) → false ≡ sameAddress p key
+  pub one-address : r ≡ true → eqb (p .kind % 2) (key .kind % 2) ≡ sameAddress p key
   unfolding sameAddress
-  other-front d = rw (← front-differs (p .addr) (key .addr) (addressSize (key .kind)) (address-least (key .kind)) d) (sym (and-false (eqb (p .kind % 2) (key .kind % 2))))
-
-  pub one-family : {r : Bool} → p .kind % 2 ≡ key .kind % 2 → r ≡ sameOctets (addressSize (key .kind)) (p .addr) (key .addr)
-      → r ≡ sameAddress p key
-  unfolding sameAddress
-  one-family e r = rw r (simp (eq-eqb _ _ e))
+  one-address z = rw (← e, z) (sym (and-true (eqb (p .kind % 2) (key .kind % 2))))
 
 -- ---- the writer
 module _ (s : List ℕ) (at : ℕ) (p : Peer) where

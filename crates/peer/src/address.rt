@@ -1,8 +1,9 @@
 // Addresses: sixteen octets, of which an address of four octets has the first four.
 ghost use mathlib.Core.Path.{_≡_};
-ghost use Prim.Native.Nat.{_≤_, _+_};
-ghost use lib.ListN.{length};
-ghost use Rattle.octets.specs.Octets.{bytesOf, patch};
+ghost use Prim.Native.Nat.{_≤_, _+_, _*_};
+ghost use lib.ListN.{length, getD};
+ghost use lib.Dec.{eqb};
+ghost use Rattle.octets.specs.Octets.{beAt, bytesOf, patch};
 ghost use Rattle.peer.specs.Peer.{addressAt, addressSize, keyOf, octetsAt, sameAddress, sameOctets, stored};
 use crate::Peer;
 use crate::kind::address_size;
@@ -84,38 +85,55 @@ pub fn stored_peer(p: Peer) -> Peer
     }
 }
 
-// Whether two addresses of a type's size are the same. Four octets are looked at as one number; past the first four the last ones
-// differ most.
+// Four octets as one number, the first octet lowest: so they are one load, and nothing is turned.
+fn low_first(s: &[u8], at: usize) -> u32
+    requires { ⌜ at + 4 ≤ length (now s) ⌝ }
+    ensures { λ r. ⌜ r ≡ getD (now (s .entry)) at 0 + 256 * (getD (now (s .entry)) (at + 1) 0 + 256 * (getD (now (s .entry)) (at + 2) 0 + 256 * getD (now (s .entry)) (at + 3) 0)) ⌝ }
+{
+    let a = octets::octet(s, at) as u32;
+    let b = octets::octet(s, at + 1) as u32;
+    let c = octets::octet(s, at + 2) as u32;
+    let d = octets::octet(s, at + 3) as u32;
+    a + 256 * (b + 256 * (c + 256 * d))
+}
+
+// Whether four octets at an offset are the same.
+fn same_four(a: &[u8], b: &[u8], at: usize) -> bool
+    requires { ⌜ (at + 4 ≤ length (now a)) × (at + 4 ≤ length (now b)) ⌝ }
+    ensures { λ r. ⌜ r ≡ eqb (beAt (now (a .entry)) at 4) (beAt (now (b .entry)) at 4) ⌝ }
+{
+    low_first(a, at) == low_first(b, at)
+}
+
+// Whether two addresses of a type's size are the same. Past the first four octets the last ones differ most.
 fn same_octets(a: &[u8], b: &[u8], kind: u8) -> bool
+    requires { ⌜ (16 ≤ length (now a)) × (16 ≤ length (now b)) ⌝ }
     ensures { λ r. ⌜ r ≡ sameOctets (addressSize kind) (now (a .entry)) (now (b .entry)) ⌝ }
 {
-    if octets::be32(a, 0) != octets::be32(b, 0) {
+    if !same_four(a, b, 0) {
         return false;
     }
     if address_size(kind) == 4 {
         return true;
     }
-    if octets::be32(a, 12) != octets::be32(b, 12) {
+    if !same_four(a, b, 12) {
         return false;
     }
-    if octets::be32(a, 8) != octets::be32(b, 8) {
+    if !same_four(a, b, 8) {
         return false;
     }
-    octets::be32(a, 4) == octets::be32(b, 4)
+    same_four(a, b, 4)
 }
 
-// Whether a peer has the key's address: its family, and the octets that the family has. The first four, which both families have,
-// are looked at before the family: they nearly always differ, and the processor foresees that.
+// Whether a peer has the key's address: the octets that its family has, and the family. The octets are looked at first: they nearly
+// always differ, and the processor foresees that.
 pub fn same_address(p: Peer, key: Peer) -> bool
     ensures answer { λ r. ⌜ r ≡ sameAddress p key ⌝ }
 {
     let a = p.addr;
     let b = key.addr;
-    if octets::be32(&a, 0) != octets::be32(&b, 0) {
+    if !same_octets(&a, &b, key.kind) {
         return false;
     }
-    if p.kind % 2 != key.kind % 2 {
-        return false;
-    }
-    same_octets(&a, &b, key.kind)
+    p.kind % 2 == key.kind % 2
 }

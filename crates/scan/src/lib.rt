@@ -8,9 +8,3 @@ pub enum Found {
     At { offset: usize, evidence: u8 },
     Nowhere,
 }
-
-// Whether a row of candidates stands, with the first one's evidence.
-pub(crate) enum Row {
-    Whole(u8),
-    Broken,
-}

@@ -5,61 +5,51 @@ ghost use lib.Dec.{eqb};
 ghost use Prim.Native.Nat.{ℕ, suc, _+_, _-_, _<_, _≤_, min};
 ghost use lib.ListN.{length};
 ghost use Rattle.rules.specs.Ask.{over};
-ghost use Rattle.walk.specs.Step.{row, scan as scanRule};
+ghost use Rattle.walk.specs.Step.{scan as scanRule};
 ghost use Rattle.walk.specs.Judged.{fails};
 ghost use Rattle.candidate.specs.Candidate.{candidateAt};
-ghost use Rattle.scan.specs.Sight.{sighted, rowed};
+ghost use Rattle.scan.specs.Sight.{sighted};
 use crate::Found;
-use crate::Row;
 use candidate::CandidateAnswer;
 
-// The first distance from p, up to the window, where a candidate stands with `more` of its family straight after it.
+// The first distance from p, up to the window, where a candidate stands with `more` of its family straight after it. The first of a
+// chain goes through the same turn as the others: the test then has one caller, which the compiler takes it into.
 pub fn scan(s: &[u8], p: usize, window: usize, more: u8) -> Found
     ensures answer { λ r. ⌜ sighted r ≡ over (now (s .entry)) (scanRule candidateAt more (suc p) window) ⌝ }
 {
     let last = reach(s.len(), p, window);
     let mut d: usize = 0;
-    loop {
+    'distance: loop {
         d = pass_over(s, p, d, last);
         if last <= d {
             return Found::Nowhere;
         }
         d += 1;
         let offset = p + d;
-        if let Row::Whole(evidence) = row_at(s, offset, more) {
-            return Found::At { offset, evidence };
+        let mut family: u8 = 0;
+        let mut evidence: u8 = 0;
+        let mut i: u8 = 0;
+        let mut at = offset;
+        loop {
+            let CandidateAnswer::Stands {
+                family: other,
+                evidence: by,
+                end,
+            } = candidate::candidate_at(s, at)
+            else {
+                continue 'distance;
+            };
+            family = first(i, other, family);
+            evidence = first(i, by, evidence);
+            if other != family {
+                continue 'distance;
+            }
+            if more <= i {
+                break 'distance Found::At { offset, evidence };
+            }
+            at = end;
+            i += 1;
         }
-    }
-}
-
-// A candidate at an offset, with `more` of its family straight after it. The first goes through the same turn as the others: the
-// test then has one caller, which the compiler takes it into.
-fn row_at(s: &[u8], offset: usize, more: u8) -> Row
-    ensures { λ r. ⌜ rowed r ≡ over (now (s .entry)) (row candidateAt more offset) ⌝ }
-{
-    let mut of: u8 = 0;
-    let mut by: u8 = 0;
-    let mut i: u8 = 0;
-    let mut at = offset;
-    loop {
-        let CandidateAnswer::Stands {
-            family,
-            evidence,
-            end,
-        } = candidate::candidate_at(s, at)
-        else {
-            return Row::Broken;
-        };
-        of = first(i, family, of);
-        by = first(i, evidence, by);
-        if family != of {
-            return Row::Broken;
-        }
-        if more <= i {
-            return Row::Whole(by);
-        }
-        at = end;
-        i += 1;
     }
 }
 
