@@ -27,6 +27,9 @@ fn peer_size(kind: u8) -> usize {
     11 + 12 * usize::from(kind & 1) + usize::from(kind & 2)
 }
 
+/// The same by the low two bits of the type.
+const SIZES: [usize; 4] = [11, 23, 13, 25];
+
 pub fn head(body: &[u8]) -> Option<Head> {
     if body.len() < FIXED {
         return None;
@@ -110,7 +113,8 @@ pub fn write(out: &mut [u8], collector: u32, view: &[u8], slots: &[Peer], count:
     let mut size = FIXED + view.len();
     let mut fits = true;
     for peer in used {
-        size += peer_size(peer.kind);
+        // No branch on what the processor cannot foresee.
+        size += SIZES[usize::from(peer.kind & 3)];
         fits &= peer.kind & 2 != 0 || peer.asn <= 65_535;
     }
     if !fits {

@@ -1,12 +1,13 @@
 -- What the helpers decide, case by case.
-use Prim.Native.Nat.{ℕ, _+_, _-_, _<_, _≤_}
+use Prim.Native.Nat.{ℕ, _+_, _-_, _/_, _%_, _<_, _≤_}
 use mathlib.Core.Path.{_≡_, refl, _∙_}
-use mathlib.Core.List.{List, _++_}
-use mathlib.Core.Bool.{Bool, true, false}
+use mathlib.Core.List.{List, [], _∷_, _++_}
+use mathlib.Core.Bool.{Bool, true, false, cond}
 use native.Mathlib.Nat.{zero-add}
 use native.Mathlib.Omega.{arith}
-use borrow.Author.Tests.{lt-ltb, le-ltb, le-leb, lt-leb}
-use lib.ListN.{length, length-append}
+use borrow.Author.Tests.{lt-ltb, le-ltb, le-leb, lt-leb, eqb-true, eqb-false}
+use lib.Dec.{eqb}
+use lib.ListN.{length, getD, length-append}
 use Rattle.answer.specs.Refusal.{numberOf}
 use Rattle.answer.specs.Writing.{refuse}
 use Rattle.answer.specs.declared.Refusal.{Refusal}
@@ -14,7 +15,7 @@ use Rattle.answer.specs.declared.Written.the-variants as W
 use Rattle.octets.specs.Octets.{bytesOf, patch}
 use Rattle.octets.proofs.Numbers.{length-bytes}
 use Rattle.octets.proofs.Stores.{stores}
-use Rattle.peer.specs.Peer.{peerSize, unfit}
+use Rattle.peer.specs.Peer.{wide, addressSize, asSize, peerSize, unfit}
 use Rattle.peer.specs.declared.Peer.{Peer}
 use Rattle.peer_slots.specs.Used.{wrongCount}
 use Rattle.peers_write.specs.Write.{headOctets}
@@ -26,6 +27,34 @@ use Rattle.peers_write.specs.declared.Start.{Start}
 -- ---- a survey and what it takes
 pub survey-is : {m n : ℕ} (left : Left) → m ≡ n → _≡_ {A = Survey} (record { left = left; count = m }) (record { left = left; count = n })
 survey-is left e = rw e
+
+-- the sizes by the low two bits of the type
+pub size-row : (kind : ℕ) → getD (11 ∷ 23 ∷ 13 ∷ 25 ∷ []) (kind % 4) 0 ≡ peerSize kind
+unfolding peerSize addressSize asSize wide
+size-row kind = by-tests (eqb (kind % 2) 1) (eqb (kind / 2 % 2) 1) refl refl
+  where
+    by-tests : (t u : Bool) → eqb (kind % 2) 1 ≡ t → eqb (kind / 2 % 2) 1 ≡ u
+        → getD (11 ∷ 23 ∷ 13 ∷ 25 ∷ []) (kind % 4) 0 ≡ 5 + cond (eqb (kind % 2) 1) 16 4 + cond (eqb (kind / 2 % 2) 1) 4 2
+    by-tests true true p q =
+        let h : kind % 2 ≡ 1 = eqb-true _ _ p in
+        let w : kind / 2 % 2 ≡ 1 = eqb-true _ _ q in
+        let e : kind % 4 ≡ 3 = omega arith in
+        rw (e, p, q)
+    by-tests true false p q =
+        let h : kind % 2 ≡ 1 = eqb-true _ _ p in
+        let w : kind / 2 % 2 ≡ 1 → ⊥ = eqb-false _ _ q in
+        let e : kind % 4 ≡ 1 = omega arith in
+        rw (e, p, q)
+    by-tests false true p q =
+        let h : kind % 2 ≡ 1 → ⊥ = eqb-false _ _ p in
+        let w : kind / 2 % 2 ≡ 1 = eqb-true _ _ q in
+        let e : kind % 4 ≡ 2 = omega arith in
+        rw (e, p, q)
+    by-tests false false p q =
+        let h : kind % 2 ≡ 1 → ⊥ = eqb-false _ _ p in
+        let w : kind / 2 % 2 ≡ 1 → ⊥ = eqb-false _ _ q in
+        let e : kind % 4 ≡ 0 = omega arith in
+        rw (e, p, q)
 
 module _ (left : Left) (p : Peer) {octets : ℕ} (less : octets ≡ left .octets - peerSize (p .kind)) where
   pub less-unfit : left .unfit ≡ true → record { octets = octets; unfit = true } ≡ lessPeer left p
