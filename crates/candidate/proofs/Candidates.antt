@@ -1,15 +1,15 @@
 -- The candidate test in each of its cases, and that a candidate is a record that passes.
-use Prim.Native.Nat.{ℕ, _+_, _-_, _*_, _^_, _<_, _≤_}
+use Prim.Native.Nat.{ℕ, _+_, _-_, _*_, _<_, _≤_}
 use mathlib.Core.Path.{_≡_, refl, sym, _∙_, ap}
 use mathlib.Core.Bool.{Bool, true, false, _&&_, and-false, not, cond}
 use mathlib.Core.List.{List}
 use native.Mathlib.Omega.{arith}
 use lib.ListN.{length, drop, getD}
 use lib.Dec.{leb, ltb, eqb}
-use borrow.Author.Tests.{lt-leb, le-leb, lt-ltb, le-ltb, leb-true, leb-false, eq-eqb, ne-eqb, eqb-true, eqb-false}
+use borrow.Author.Tests.{lt-leb, le-leb, lt-ltb, le-ltb, leb-true, leb-false, eq-eqb, ne-eqb, eqb-true}
 use Rattle.octets.specs.Octets.{beAt}
 use Rattle.octets.proofs.Numbers.{be-drop, be-halves, be-one}
-use Rattle.rules.specs.Ask.{Ask, done, _>>=_, over, past}
+use Rattle.rules.specs.Ask.{done, _>>=_, over, past}
 use Rattle.rules.proofs.Asked.{over-bind, over-past}
 use Rattle.header.specs.Read.{Heading, refused, accepted, header, headerAt}
 use Rattle.header.specs.Frame.{Framing, framed, frame}
@@ -17,7 +17,7 @@ use Rattle.header.proofs.Reading.{header-kind, header-stored}
 use Rattle.header.proofs.Framing.{read-within}
 use Rattle.checks.specs.Legacy.{legacy}
 use Rattle.checks.specs.Bgp4mp.{asSize, stateChange}
-use Rattle.walk.specs.Judged.{Judged, fit, off, cut, Candidate, stands, fails}
+use Rattle.walk.specs.Judged.{Judged, fit, off, cut, stands, fails}
 use Rattle.walk.proofs.Sound.{Sound}
 use Rattle.judge.specs.Record.{verdict, judge, judgeAt}
 use Rattle.candidate.specs.Candidate.{family, evidence, plausible, standing, headed, candidate, candidateAt}
@@ -144,7 +144,7 @@ module _ (s : List ℕ) (p : ℕ) where
     not-begun : begins (over (drop p s) header) ≡ false → fails ≡ over s (candidateAt p)
     not-begun e = rw (candidate-left l, candidate-over (drop p s) p, e)
 
-    pub candidate-other : {k f : ℕ} → k ≡ beAt s (p + 4) 2 → f ≡ family k → f ≡ 0 → fails ≡ over s (candidateAt p)
+    candidate-other : {k f : ℕ} → k ≡ beAt s (p + 4) 2 → f ≡ family k → f ≡ 0 → fails ≡ over s (candidateAt p)
     candidate-other {k} {f} e g z = not-begun (by-number (eqb (over (drop p s) header .number) 0) refl)
       where
         by-number : (t : Bool) → eqb (over (drop p s) header .number) 0 ≡ t → (t && plausible (over (drop p s) header .kind) (over (drop p s) header .subtype) (over (drop p s) header .stored) (over (drop p s) header .micros)) ≡ false
@@ -168,7 +168,7 @@ module _ (s : List ℕ) (p : ℕ) where
         (family-rest (beAt s (p + 4) 2) (λ z. a (omega arith)) (λ z. b (omega arith) (omega arith)) (λ z. b (omega arith) (omega arith))) refl
 
     -- a wire length that no candidate has
-    pub candidate-long : {w : ℕ} → w ≡ beAt s (p + 8) 4 → 65603 < w → fails ≡ over s (candidateAt p)
+    candidate-long : {w : ℕ} → w ≡ beAt s (p + 8) 4 → 65603 < w → fails ≡ over s (candidateAt p)
     candidate-long {w} e m = not-begun (by-number (eqb (over (drop p s) header .number) 0) refl)
       where
         by-number : (t : Bool) → eqb (over (drop p s) header .number) 0 ≡ t → (t && plausible (over (drop p s) header .kind) (over (drop p s) header .subtype) (over (drop p s) header .stored) (over (drop p s) header .micros)) ≡ false

@@ -7,7 +7,7 @@ use native.Mathlib.Omega.{arith}
 use lib.ListN.{length, drop, length-drop}
 use lib.Dec.{ltb, leb, eqb}
 use borrow.Author.Tests.{lt-ltb, le-ltb, ltb-true, ltb-false, le-leb, lt-leb, eq-eqb, ne-eqb, eqb-true, eqb-false}
-use Rattle.rules.specs.Ask.{over, _>>=_}
+use Rattle.rules.specs.Ask.{over}
 use Rattle.rules.proofs.Asked.{over-bind}
 use Rattle.rules.proofs.Meets.{Meets, meets-cond, meets-bind, meets-over}
 use Rattle.header.specs.Kind.{known, timed, size}
@@ -48,14 +48,6 @@ header-ok = (
   ),
   λ n d. record { whole = λ z. absurd (omega arith); all-there = λ z. absurd (z refl) },
 )
-
--- a header that is read lies in the stream
-pub header-room : (s : List ℕ) → over s header .number ≡ 0 → size (over s header .kind) ≤ length s
-header-room s e =
-    let o = meets-over HeaderOk s false 0 header (omega arith) header-ok in
-    let w = o .holds .whole e in
-    let l = o .within in
-    omega arith
 
 -- a record that is framed at an offset lies there whole; only refusals 1 and 4 are for want of octets
 pub record FrameOk (at : ℕ) (b : Bool) (m : ℕ) (f : Framing) : Type 0 where

@@ -1,14 +1,14 @@
 -- What every judgement has, whatever the stream; so the walk may rest on it.
 use Prim.Native.Nat.{ℕ, _+_, _<_, _≤_}
-use mathlib.Core.Path.{_≡_, refl, sym, _∙_, ap}
+use mathlib.Core.Path.{_≡_, refl}
 use mathlib.Core.Bool.{Bool, true, false, cond}
 use mathlib.Core.List.{List}
 use native.Mathlib.Omega.{arith}
 use lib.ListN.{length, drop, length-drop}
 use lib.Dec.{leb, eqb}
 use borrow.Author.Tests.{lt-leb, leb-true, leb-false, eqb-true, eqb-false}
-use Rattle.rules.specs.Ask.{Ask, done, octets, _>>=_, over, past}
-use Rattle.rules.proofs.Asked.{over-bind, over-past}
+use Rattle.rules.specs.Ask.{done, octets, _>>=_, over, past}
+use Rattle.rules.proofs.Asked.{over-past}
 use Rattle.rules.proofs.Meets.{Meets, meets-cond, meets-bind, meets-over}
 use Rattle.header.specs.Kind.{size}
 use Rattle.header.specs.Read.{header}

@@ -1,21 +1,21 @@
 -- One peer: the AS in its field, and what the reader and the writer answer in each case.
-use Prim.Native.Nat.{ℕ, zero, suc, _+_, _-_, _*_, _/_, _%_, _<_, _≤_}
+use Prim.Native.Nat.{ℕ, _+_, _-_, _*_, _/_, _%_, _<_, _≤_}
 use mathlib.Core.Path.{_≡_, refl, sym, _∙_, ap}
 use mathlib.Core.List.{List, [], _∷_, _++_}
 use mathlib.Core.Bool.{Bool, true, false, and-true, and-false}
 use native.Mathlib.Nat.{add-assoc, le-of-eq}
 use native.Mathlib.Omega.{arith}
-use borrow.Author.Tests.{lt-ltb, le-ltb, le-leb, lt-leb, eq-eqb, ne-eqb}
+use borrow.Author.Tests.{lt-ltb, le-ltb, le-leb, lt-leb}
 use lib.Dec.{eqb}
-use lib.ListN.{length, getD, take, drop, length-append}
+use lib.ListN.{length, getD, length-append}
 use Rattle.octets.specs.Octets.{beAt, bytesOf, patch, part}
 use Rattle.octets.proofs.Numbers.{be-halves, bytes-halves, length-bytes}
-use Rattle.octets.proofs.Stores.{length-patch, patch-over, stores}
-use Rattle.octets.proofs.Parts.{be-front, patch-lent}
+use Rattle.octets.proofs.Stores.{patch-over, stores}
+use Rattle.octets.proofs.Parts.{be-front}
 use Rattle.peer.specs.Peer.{wide, addressSize, asSize, peerSize, octetsAt, addressAt, peerAt, unread, readPeer, stored, keyOf, sameOctets}
 use Rattle.peer.specs.Peer.{sameAddress, peerOctets, putPeer}
 use Rattle.peer.specs.declared.Peer.{Peer}
-use Rattle.peer.proofs.Sizes.{as-either, as-least, address-least, size-is}
+use Rattle.peer.proofs.Sizes.{as-either}
 use Rattle.peer.proofs.Addresses.{length-octets}
 
 -- ---- the AS

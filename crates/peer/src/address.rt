@@ -3,19 +3,10 @@ ghost use mathlib.Core.Path.{_≡_};
 ghost use Prim.Native.Nat.{_≤_, _+_, _*_};
 ghost use lib.ListN.{length, getD};
 ghost use lib.Dec.{eqb};
-ghost use Rattle.octets.specs.Octets.{beAt, bytesOf, patch};
+ghost use Rattle.octets.specs.Octets.{beAt, patch};
 ghost use Rattle.peer.specs.Peer.{addressAt, addressSize, keyOf, octetsAt, sameAddress, sameOctets, stored};
 use crate::Peer;
 use crate::kind::address_size;
-
-// A number of four octets. In a part whose length is written out no octet is tested for room.
-pub(crate) fn put_word(out: &mut [u8], at: usize, v: u32)
-    requires { ⌜ at + 4 ≤ length (now out) ⌝ }
-    ensures { λ _. ⌜ now (out .exit) ≡ patch (now (out .entry)) at (bytesOf 4 v) ⌝ }
-{
-    let end = at + 4;
-    octets::put_be32(&mut out[at..end], 0, v);
-}
 
 // Copies four octets as one number.
 fn put_four(out: &mut [u8], to: usize, s: &[u8], at: usize)
@@ -23,7 +14,7 @@ fn put_four(out: &mut [u8], to: usize, s: &[u8], at: usize)
     ensures { λ _. ⌜ now (out .exit) ≡ patch (now (out .entry)) to (octetsAt (now (s .entry)) at 4) ⌝ }
 {
     let stop = at + 4;
-    put_word(out, to, octets::be32(&s[at..stop], 0));
+    copies::store32(out, to, octets::be32(&s[at..stop], 0));
 }
 
 // Copies an address of the type's size.

@@ -8,7 +8,6 @@ ghost use Rattle.peer.specs.Peer.{asSize, putPeer, readPeer, reading, un
 use crate::Peer;
 use crate::PeerRead;
 use crate::address::put_address;
-use crate::address::put_word;
 use crate::address::read_address;
 use crate::kind::address_size;
 use crate::kind::as_size;
@@ -79,15 +78,6 @@ fn refuse(why: Refusal) -> PeerRead
     }
 }
 
-// Half of an AS, in the same way.
-fn put_half(out: &mut [u8], at: usize, v: u16)
-    requires { ⌜ at + 2 ≤ length (now out) ⌝ }
-    ensures { λ _. ⌜ now (out .exit) ≡ patch (now (out .entry)) at (bytesOf 2 v) ⌝ }
-{
-    let end = at + 2;
-    octets::put_be16(&mut out[at..end], 0, v);
-}
-
 // The AS in the octets that the type gives it: the high half, and the low half in the last two octets, which are the same two
 // where there are only two.
 fn put_as(out: &mut [u8], at: usize, kind: u8, asn: u32)
@@ -95,8 +85,8 @@ fn put_as(out: &mut [u8], at: usize, kind: u8, asn: u32)
     ensures { λ _. ⌜ now (out .exit) ≡ patch (now (out .entry)) at (bytesOf (asSize kind) asn) ⌝ }
 {
     let end = at + as_size(kind);
-    put_half(out, at, (asn / 65536) as u16);
-    put_half(out, end - 2, (asn % 65536) as u16);
+    copies::store16(out, at, (asn / 65536) as u16);
+    copies::store16(out, end - 2, (asn % 65536) as u16);
 }
 
 // A peer's octets at an offset of the output, and where the next peer goes.
@@ -114,7 +104,7 @@ pub fn put_peer(out: &mut [u8], at: usize, p: Peer) -> usize
     }
     let length = address_size(kind);
     octets::put_octet(out, at, kind);
-    put_word(out, at + 1, p.id);
+    copies::store32(out, at + 1, p.id);
     let front = at + 5;
     let addr = p.addr;
     put_address(out, front, &addr, 0, kind);

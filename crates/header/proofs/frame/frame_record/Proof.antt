@@ -1,4 +1,4 @@
-use mathlib.Core.Path.{_≡_, sym, _∙_, ap}
+use mathlib.Core.Path.{sym, _∙_, ap}
 use Rattle.answer.proofs.Refusals.{number-not-zero}
 use Rattle.header.specs.Read.{values}
 use Rattle.header.proofs.Framing.{frame-refused, frame-read}

@@ -18,14 +18,14 @@ part-be32-end c = search needs
 be32-requires : tie.Need-be32-requires
 be32-requires c κs = search needs
 
-put-word-requires : tie.Need-put-word-requires
-put-word-requires c κs = search needs
+store32-requires : tie.Need-store32-requires
+store32-requires c κs = search needs
 
 same-length : tie.Need-same-length
 same-length c = search needs
 
 returns : tie.Need-returns
-returns c = four-stored _ _ _ _ (λ i. c .before .before .before .before .before .before .shared-slice-known .given i .fits) (c .before .before .before .before .before .before .before .before .pre .1) (c .before .before .before .be32 .ensures) (c .before .before .put-word .ensures)
+returns c = four-stored _ _ _ _ (λ i. c .before .before .before .before .before .before .shared-slice-known .given i .fits) (c .before .before .before .before .before .before .before .before .pre .1) (c .before .before .before .be32 .ensures) (c .before .before .store32 .ensures)
 
 pub put-four-spec : {M : Type 1} → statement M
 put-four-spec =
@@ -36,6 +36,6 @@ put-four-spec =
     part-be32-start
     part-be32-end
     be32-requires
-    put-word-requires
+    store32-requires
     same-length
     returns)

@@ -23,11 +23,11 @@ address-size-requires c κs = search needs
 put-octet-requires : tie.Need-put-octet-requires
 put-octet-requires c κs = search needs
 
-add-put-word : tie.Need-add-put-word
-add-put-word c = search needs
+add-store32 : tie.Need-add-store32
+add-store32 c = search needs
 
-put-word-requires : tie.Need-put-word-requires
-put-word-requires c κs = omega (arith, size-is (c .before .before .before .before .before .before .before .before .before .before .args .p .kind), ap length (c .before .before .before .put-octet .ensures) ∙ length-patch _ _ _)
+store32-requires : tie.Need-store32-requires
+store32-requires c κs = search needs
 
 add-front : tie.Need-add-front
 add-front c = search needs
@@ -39,7 +39,7 @@ put-address-requires : tie.Need-put-address-requires
 put-address-requires c κs =
     let start = c .before .before .before .before .before .before .before .before .before .before .before .before .before .before .before .before .args in
     let e : 16 ≡ length (start .p .addr) = slice-aggregate-put-address c in (
-      omega (arith, size-is (start .p .kind), ap length (c .before .before .before .before .before .put-word .ensures) ∙ length-patch _ _ _, ap length (c .before .before .before .before .before .before .before .before .before .put-octet .ensures) ∙ length-patch _ _ _),
+      omega (arith, size-is (start .p .kind), ap length (c .before .before .before .before .before .store32 .ensures) ∙ length-patch _ _ _, ap length (c .before .before .before .before .before .before .before .before .before .put-octet .ensures) ∙ length-patch _ _ _),
       omega (arith, address-le (start .p .kind)),
     )
 
@@ -51,7 +51,7 @@ add-put-as c =
 put-as-requires : tie.Need-put-as-requires
 put-as-requires c κs =
     let start = c .before .before .before .before .before .before .before .before .before .before .before .before .before .before .before .before .before .before .before .before .args in
-    omega (arith, size-is (start .p .kind), ap length (c .before .before .before .put-address .ensures) ∙ length-patch _ _ _, ap length (c .before .before .before .before .before .before .before .before .before .put-word .ensures) ∙ length-patch _ _ _, ap length (c .before .before .before .before .before .before .before .before .before .before .before .before .before .put-octet .ensures) ∙ length-patch _ _ _)
+    omega (arith, size-is (start .p .kind), ap length (c .before .before .before .put-address .ensures) ∙ length-patch _ _ _, ap length (c .before .before .before .before .before .before .before .before .before .store32 .ensures) ∙ length-patch _ _ _, ap length (c .before .before .before .before .before .before .before .before .before .before .before .before .before .put-octet .ensures) ∙ length-patch _ _ _)
 
 add-result : tie.Need-add-result
 add-result c = search needs
@@ -65,7 +65,7 @@ returns-3 c =
     let at-octet = at-word .before .before .before .before in
     let at-if2 = at-octet .before .before .before in
     put-whole _ _ _ (at-if2 .before .before .peer-size .ensures) (at-if2 .before .if1 .left) (at-if2 .if2 .left) (at-octet .before .before .address-size .ensures)
-    (at-octet .put-octet .ensures) (at-word .put-word .ensures) (c .before .before .before .before .before .before .put-address .ensures) (c .before .before .put-as .ensures)
+    (at-octet .put-octet .ensures) (at-word .store32 .ensures) (c .before .before .before .before .before .before .put-address .ensures) (c .before .before .put-as .ensures)
 
 pub put-peer-spec : {M : Type 1} → statement M
 put-peer-spec =
@@ -76,8 +76,8 @@ put-peer-spec =
     returns-2
     address-size-requires
     put-octet-requires
-    add-put-word
-    put-word-requires
+    add-store32
+    store32-requires
     add-front
     slice-aggregate-put-address
     put-address-requires
