@@ -21,7 +21,7 @@ use Rattle.walk.specs.Judged.{Judged, fit, off, cut, stands, fails}
 use Rattle.walk.proofs.Sound.{Sound}
 use Rattle.judge.specs.Record.{verdict, judge, judgeAt}
 use Rattle.candidate.specs.Candidate.{family, evidence, plausible, standing, headed, candidate, candidateAt}
-use Rattle.judge.proofs.Soundness.{judge-left, inside}
+use Rattle.judge.proofs.Soundness.{judge-left, inside, off-number, cut-number}
 
 pub family-rest : (k : ℕ) → (k ≡ 5 → ⊥) → (k ≡ 16 → ⊥) → (k ≡ 17 → ⊥) → 0 ≡ family k
 unfolding family
@@ -40,14 +40,14 @@ module _ (k u : ℕ) where
   unfolding evidence
   evidence-marker n e = simp (ne-eqb _ _ n, e)
 
-  evidence-small : evidence k u < 4
+  evidence-between : (1 ≤ evidence k u) × (evidence k u ≤ 3)
   unfolding evidence
-  evidence-small = by-tests (eqb k 5) (stateChange u)
+  evidence-between = by-tests (eqb k 5) (stateChange u)
     where
-      by-tests : (t v : Bool) → cond t 1 (cond v 3 2) < 4
-      by-tests true v = omega arith
-      by-tests false true = omega arith
-      by-tests false false = omega arith
+      by-tests : (t v : Bool) → (1 ≤ cond t 1 (cond v 3 2)) × (cond t 1 (cond v 3 2) ≤ 3)
+      by-tests true v = (omega arith, omega arith)
+      by-tests false true = (omega arith, omega arith)
+      by-tests false false = (omega arith, omega arith)
 
 -- a judged record as a candidate, by its cases
 module _ {j : Judged} where
@@ -209,7 +209,7 @@ pub record Accepted (s : List ℕ) (p v e : ℕ) : Type 0 where
   pub frame : Framing
   pub accepted : over s (judgeAt p) ≡ fit frame
   pub same-end : frame .end ≡ e
-  pub small : v < 4
+  pub between : (1 ≤ v) × (v ≤ 3)
 
 pub candidate-accepted : (s : List ℕ) (p f v e : ℕ) → over s (candidateAt p) ≡ stands f v e → Accepted s p v e
 unfolding standing
@@ -224,8 +224,8 @@ candidate-accepted s p f v e q = by-place (leb p (length s)) refl
     by-judged l (fit g) z true q =
         let x : g .end ≡ e = cc in
         let w : evidence (g .head .kind) (g .head .subtype) ≡ v = cc in
-        let y = evidence-small (g .head .kind) (g .head .subtype) in
-        record { frame = g; accepted = judge-left s p l ∙ z; same-end = x; small = omega arith }
+        let y = evidence-between (g .head .kind) (g .head .subtype) in
+        record { frame = g; accepted = judge-left s p l ∙ z; same-end = x; between = rw w at y }
 
     by-place : (t : Bool) → leb p (length s) ≡ t → Accepted s p v e
     by-place true t =
@@ -239,6 +239,8 @@ sound =
     record {
       fits = λ s p f q. rw q at (inside s p);
       offs = λ s p r e q. rw q at (inside s p);
+      off-number = off-number;
+      cut-number = cut-number;
       carried = λ s p f v e q. let a = candidate-accepted s p f v e q in (a .frame, a .accepted, a .same-end);
-      evidence = λ s p f v e q. candidate-accepted s p f v e q .small;
+      evidence = λ s p f v e q. candidate-accepted s p f v e q .between;
     }

@@ -2,12 +2,12 @@
 use Prim.Native.Nat.{ℕ, zero, suc, _+_, _-_, _*_, _≤_}
 use mathlib.Core.Path.{_≡_, refl}
 use mathlib.Core.Bool.{Bool, true, false, _&&_, not, cond, and-eq-true-iff}
-use mathlib.Core.List.{List, [], _∷_}
+use mathlib.Core.List.{List, [], _∷_, _++_}
 use native.Mathlib.Omega.{arith}
-use lib.ListN.{length, getD, drop, length-drop}
+use lib.ListN.{length, getD, drop, length-drop, replicate}
 use lib.Dec.{eqb, leb, ltb}
 use borrow.Author.Tests.{leb-true, eqb-true}
-use Rattle.octets.specs.Octets.{beAt, ones}
+use Rattle.octets.specs.Octets.{beAt, ones, Octets}
 use Rattle.checks.specs.Within.{from-to, none, within}
 use Rattle.checks.specs.Legacy.{legacyBounds, legacy}
 use Rattle.checks.specs.Message.{messageBounds, message}
@@ -125,3 +125,12 @@ legacy-most u n = by-tests (ltb (legacyBounds u .high) (legacyBounds u .low)) (w
         let m = leb-true n (legacyBounds u .high) (second (leb (legacyBounds u .low) n) (leb n (legacyBounds u .high)) h) in
         let g = legacy-high u in
         omega arith
+
+-- the largest body: subtype 4 with IPv6 addresses and an UPDATE of 65,535 octets
+pub largest : List ℕ
+largest = replicate 11 0 ++ (2 ∷ []) ++ replicate 32 0 ++ replicate 18 255 ++ (2 ∷ []) ++ replicate 65516 0
+
+-- THEOREM. A body of 65,579 octets passes: that is the largest.
+pub largest-passes : Octets largest × (length largest ≡ 65579) × (bgp4mp 4 largest ≡ 0)
+unfolding largest upTo bgp4mp asSize asSizes envelope addressSize tail stateChange message messageBounds beAt ones
+largest-passes = (λ i. let h = getD-most 255 largest i refl in omega arith, refl, refl)

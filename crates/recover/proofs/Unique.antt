@@ -9,7 +9,10 @@ use Rattle.header.specs.Read.{accepted}
 use Rattle.header.specs.Frame.{Framing, unframed}
 use Rattle.header.specs.Back.{headerOf}
 use Rattle.walk.specs.Step.{Answer, handed, gap, end, refused}
-use Rattle.recover.specs.Answers.{said, stepped}
+use Rattle.walk.specs.Step as rule
+use Rattle.walk.specs.declared.Walk.{Walk}
+use Rattle.recover.specs.Answers.{said, stepped, left}
+use Rattle.recover.specs.declared.Stepped.{Stepped}
 use Rattle.recover.specs.declared.WalkAnswer.{WalkAnswer}
 use Rattle.recover.specs.declared.WalkAnswer.the-variants.{Record, Gap, End, Window, Refused}
 
@@ -72,3 +75,16 @@ said-unique (Window b w r) (End a) e = never (cc)
 said-unique (Refused r) (Record s h w x y) e = never (cc)
 said-unique (Refused q) (Gap a z r v c) e = never (cc)
 said-unique (Refused r) (End a) e = never (cc)
+
+-- a call on a lent walk: the walk and the answer
+pub left-unique : (w v : Walk) (a b : WalkAnswer) → left (w, a) ≡ left (v, b) → (w ≡ v) × (a ≡ b)
+left-unique w v a b e =
+    (ap (λ (x : rule.Stepped). x .walk) e, said-unique a b (ap (λ (x : rule.Stepped). x .answer) e))
+
+-- a call by value
+pub stepped-unique : (a b : Stepped) → stepped a ≡ stepped b → a ≡ b
+stepped-unique a b e =
+    let u = left-unique (a .walk) (b .walk) (a .answer) (b .answer) e in
+    let i : a .walk ≡ b .walk = u .0 in
+    let j : a .answer ≡ b .answer = u .1 in
+    ap (λ (w : Walk). record { walk = w; answer = a .answer }) i ∙ ap (λ (x : WalkAnswer). record { walk = b .walk; answer = x }) j

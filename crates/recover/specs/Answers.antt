@@ -4,6 +4,7 @@ use Rattle.answer.specs.Refusal.{numberOf}
 use Rattle.header.specs.Read.{accepted}
 use Rattle.walk.specs.Step.{Answer, handed, gap, end, refused, passed, failed}
 use Rattle.walk.specs.Step as rule
+use Rattle.walk.specs.declared.Walk.{Walk}
 use Rattle.recover.specs.declared.WalkAnswer.{WalkAnswer}
 use Rattle.recover.specs.declared.WalkAnswer.the-variants.{Record, Gap, End, Window, Refused}
 use Rattle.recover.specs.declared.Stepped.{Stepped}
@@ -21,6 +22,10 @@ said (Refused r) = refused (numberOf r) 0 0 0
 
 abbrev pub stepped : Stepped → rule.Stepped
 stepped x = record { walk = x .walk; answer = said (x .answer) }
+
+-- what a call on a lent walk leaves and says
+abbrev pub left : Walk × WalkAnswer → rule.Stepped
+left x = record { walk = x .0; answer = said (x .1) }
 
 -- what the try at a record's own end says
 abbrev pub tried : Tried → rule.Tried

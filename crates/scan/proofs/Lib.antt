@@ -1,2 +1,3 @@
--- Scans: where a scan ends.
+-- Scans: where a scan ends. Unique: answers that say the same are equal.
 pub mod Scans
+pub mod Unique

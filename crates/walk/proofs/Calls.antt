@@ -1,6 +1,6 @@
 -- What one call is by its cases.
 use Prim.Native.Nat.{ℕ, zero, suc, _+_, _-_, _<_, _≤_}
-use mathlib.Core.Path.{_≡_, refl}
+use mathlib.Core.Path.{_≡_, refl, sym, subst}
 use mathlib.Core.Bool.{Bool, true, false, cond}
 use mathlib.Core.List.{List}
 use native.Mathlib.Omega.{arith}
@@ -22,41 +22,49 @@ module _ (judge : ℕ → Ask Judged) (candidate : ℕ → Ask Candidate) (s : L
   abbrev search : ℕ → Found
   search p = over s (scan candidate (k - 1) (suc p) window)
 
+  -- why a scan is asked at p, with the refusal r of what stands there
+  pub data Why (p r : ℕ) : Type 0 where
+    unframed : over s (judge p) ≡ cut r → Why p r
+    untried : (e : ℕ) → over s (judge p) ≡ off r e → over s (aligned judge (asked k) 0 e) ≡ failed → Why p r
+
   -- what a call answers at p, and why
   pub data Call (p : ℕ) : Stepped → Type 0 where
     ends : p ≡ length s → Call p (stopped p (end p))
     fits : (f : Framing) → over s (judge p) ≡ fit f → Call p (moved (f .end) (handed p f))
     own : (r e m : ℕ) → over s (judge p) ≡ off r e → over s (aligned judge (asked k) 0 e) ≡ passed m → Call p (moved e (gap p e r 4 m))
-    takes : (r o v : ℕ) → p < length s → search p ≡ found o v → Call p (moved o (gap p o r v (asked k)))
-    none : (r : ℕ) → p < length s → search p ≡ nowhere → 1 ≤ window → length s < p + (window + 6) → Call p (moved (length s) (gap p (length s) r 5 0))
-    full : (r : ℕ) → p < length s → search p ≡ nowhere → (1 ≤ window → p + (window + 6) ≤ length s) → Call p (stopped p (refused 11 p window r))
+    takes : (r o v : ℕ) → p < length s → Why p r → search p ≡ found o v → Call p (moved o (gap p o r v (asked k)))
+    none : (r : ℕ) → p < length s → Why p r → search p ≡ nowhere → 1 ≤ window → length s < p + (window + 6)
+        → Call p (moved (length s) (gap p (length s) r 5 0))
+    full : (r : ℕ) → p < length s → Why p r → search p ≡ nowhere → (1 ≤ window → p + (window + 6) ≤ length s)
+        → Call p (stopped p (refused 11 p window r))
 
-  by-unfound : (p r : ℕ) → p < length s → search p ≡ nowhere → (d : ℕ) → d ≡ window → Call p (over s (unfound p d r))
+  by-unfound : (p r : ℕ) → p < length s → Why p r → search p ≡ nowhere → (d : ℕ) → d ≡ window → Call p (over s (unfound p d r))
   unfolding unfound over
-  by-unfound p r l q zero e = rw e (full r l q (λ h. absurd (omega arith)))
-  by-unfound p r l q (suc d) e = by-test (leb (p + (suc d + 6)) (length s)) refl
+  by-unfound p r l y q zero e = rw e (full r l y q (λ h. absurd (omega arith)))
+  by-unfound p r l y q (suc d) e = by-test (leb (p + (suc d + 6)) (length s)) refl
     where
-      by-test : (t : Bool) → leb (p + (suc d + 6)) (length s) ≡ t → Call p (cond t (stopped p (refused 11 p (suc d) r)) (moved (length s) (gap p (length s) r 5 0)))
-      by-test true t = let a : p + (suc d + 6) ≤ length s = leb-true _ _ t in rw e (full r l q (λ h. omega arith))
-      by-test false t = let a : length s < p + (suc d + 6) = leb-false _ _ t in none r l q (omega arith) (omega arith)
+      by-test : (t : Bool) → leb (p + (suc d + 6)) (length s) ≡ t
+          → Call p (cond t (stopped p (refused 11 p (suc d) r)) (moved (length s) (gap p (length s) r 5 0)))
+      by-test true t = let a : p + (suc d + 6) ≤ length s = leb-true _ _ t in rw e (full r l y q (λ h. omega arith))
+      by-test false t = let a : length s < p + (suc d + 6) = leb-false _ _ t in none r l y q (omega arith) (omega arith)
 
-  by-scan : (p r : ℕ) → p < length s → Call p (over s (scanned judge candidate p window k r))
+  by-scan : (p r : ℕ) → p < length s → Why p r → Call p (over s (scanned judge candidate p window k r))
   unfolding scanned leave over
-  by-scan p r l = rw (over-bind s _ (scan candidate (k - 1) (suc p) window)) (by-found (search p) refl)
+  by-scan p r l y = subst (Call p) (sym (over-bind s _ (scan candidate (k - 1) (suc p) window))) (by-found (search p) refl)
     where
       by-found : (f : Found) → search p ≡ f → Call p (over s (leave p window k r f))
-      by-found (found o v) q = takes r o v l q
-      by-found nowhere q = by-unfound p r l q window refl
+      by-found (found o v) q = takes r o v l y q
+      by-found nowhere q = by-unfound p r l y q window refl
 
   by-judged : (p : ℕ) → p < length s → (j : Judged) → over s (judge p) ≡ j → Call p (over s (judged judge candidate p window k j))
   unfolding judged ownEnd resume over
   by-judged p l (fit f) q = fits f q
-  by-judged p l (cut r) q = by-scan p r l
-  by-judged p l (off r e) q = rw (over-bind s _ (aligned judge (asked k) 0 e)) (by-tried (over s (aligned judge (asked k) 0 e)) refl)
+  by-judged p l (cut r) q = by-scan p r l (unframed q)
+  by-judged p l (off r e) q = subst (Call p) (sym (over-bind s _ (aligned judge (asked k) 0 e))) (by-tried (over s (aligned judge (asked k) 0 e)) refl)
     where
       by-tried : (t : Tried) → over s (aligned judge (asked k) 0 e) ≡ t → Call p (over s (resume judge candidate p window k r e t))
       by-tried (passed m) u = own r e m q u
-      by-tried failed u = by-scan p r l
+      by-tried failed u = by-scan p r l (untried e q u)
 
   pub called : (p : ℕ) → p ≤ length s → Call p (call (at p))
   unfolding step going over

@@ -3,5 +3,7 @@
 pub mod Sound
 pub mod Rows
 pub mod Calls
+pub mod Tries
 pub mod Demand3
+pub mod Determined
 pub mod Turns

@@ -5,12 +5,16 @@ use mathlib.Core.List.{List}
 use lib.ListN.{length}
 use Rattle.rules.specs.Ask.{Ask, over}
 use Rattle.header.specs.Frame.{Framing}
-use Rattle.walk.specs.Judged.{Judged, fit, off, Candidate, stands}
+use Rattle.walk.specs.Judged.{Judged, fit, off, cut, Candidate, stands}
 
 pub record Sound (judge : ℕ → Ask Judged) (candidate : ℕ → Ask Candidate) : Type 0 where
   -- a record that passes, and one that is refused with 5, 6 or 7, has 12 octets or more and lies in the stream
   pub fits : (s : List ℕ) (p : ℕ) (f : Framing) → over s (judge p) ≡ fit f → (p + 12 ≤ f .end) × (f .end ≤ length s)
   pub offs : (s : List ℕ) (p r e : ℕ) → over s (judge p) ≡ off r e → (p + 12 ≤ e) × (e ≤ length s)
-  -- a candidate is a record that passes, with evidence below 4
-  pub carried : (s : List ℕ) (p f v e : ℕ) → over s (candidate p) ≡ stands f v e → (g : Framing) × (over s (judge p) ≡ fit g) × (g .end ≡ e)
-  pub evidence : (s : List ℕ) (p f v e : ℕ) → over s (candidate p) ≡ stands f v e → v < 4
+  -- the numbers that it is refused with, and those of what is not framed
+  pub off-number : (s : List ℕ) (p r e : ℕ) → over s (judge p) ≡ off r e → (5 ≤ r) × (r ≤ 7)
+  pub cut-number : (s : List ℕ) (p r : ℕ) → over s (judge p) ≡ cut r → (1 ≤ r) × (r ≤ 4)
+  -- a candidate is a record that passes, with evidence from 1 to 3
+  pub carried : (s : List ℕ) (p f v e : ℕ) → over s (candidate p) ≡ stands f v e
+      → (g : Framing) × (over s (judge p) ≡ fit g) × (g .end ≡ e)
+  pub evidence : (s : List ℕ) (p f v e : ℕ) → over s (candidate p) ≡ stands f v e → (1 ≤ v) × (v ≤ 3)

@@ -1,0 +1,2 @@
+-- Mixed: what runs of exported calls promise.
+pub mod Mixed

@@ -1,0 +1,2 @@
+-- Made: runs of exported calls on one lent walk, and what they show.
+pub mod Made
