@@ -8,7 +8,7 @@ use native.Mathlib.Numerals.{add-one}
 use native.Mathlib.Omega.{arith}
 use borrow.Author.Tests.{eq-eqb, ne-eqb, eqb-true, eqb-false}
 use lib.ListN.{length, getD, take, drop, replicate, length-append, length-drop}
-use lib.Seq.{take-suc, getD-drop}
+use lib.Seq.{take-suc, take-at, drop-at, getD-drop}
 use lib.Dec.{eqb}
 use Rattle.octets.specs.Octets.{beAt, bytesOf, patch, part, Octets}
 use Rattle.octets.proofs.Numbers.{be-halves, be-one, be-same, bytes-of-be}
@@ -30,6 +30,13 @@ octets-part s at (suc n) h =
     let e : octetsAt s at n ≡ part s at n = octets-part s at n (omega arith) in
     let l : n < length (drop at s) = simp length-drop (omega arith) in
     rw (e, ← getD-drop at s n 0) (sym (take-suc (drop at s) n 0 l))
+
+-- octets between others
+pub octets-between : (p x q : List ℕ) (n m : ℕ) → length p ≡ n → length x ≡ m → octetsAt (p ++ x ++ q) n m ≡ x
+octets-between p x q n m e f =
+    let l : n + m ≤ length (p ++ x ++ q) = (let a = length-append (p ++ x) q in let b = length-append p x in omega arith) in
+    let d : drop n (p ++ x ++ q) ≡ x ++ q = ap (drop n) (append-assoc p x q) ∙ drop-at p (x ++ q) n e in
+    octets-part (p ++ x ++ q) n m l ∙ ap (take m) d ∙ take-at x q m f
 
 octets-join : (s : List ℕ) (at n m : ℕ) → octetsAt s at n ++ octetsAt s (at + n) m ≡ octetsAt s at (n + m)
 unfolding octetsAt

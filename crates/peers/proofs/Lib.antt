@@ -1,4 +1,6 @@
--- Steps: what the helpers decide, case by case. Slots: slots read. Unique: answers that say the same are equal.
+-- Steps: what the helpers decide, case by case. Slots: slots read. Highest: what a lookup finds, said plainly. Unique: answers that
+-- say the same are equal.
 pub mod Steps
 pub mod Slots
+pub mod Highest
 pub mod Unique

@@ -6,15 +6,15 @@ use mathlib.Core.Bool.{Bool, true, false}
 use native.Mathlib.Nat.{add-assoc, add-zero, zero-add}
 use native.Mathlib.Omega.{arith}
 use borrow.Author.Tests.{ltb-false, le-ltb}
-use lib.ListN.{length, getD, take, drop, replicate, length-append, length-replicate, List·getD-append}
-use lib.Seq.{take-all, take-at, drop-at, drop-cons, getD-drop}
+use lib.ListN.{length, getD, drop, replicate, length-append}
+use lib.Seq.{drop-cons, getD-drop}
 use lib.Dec.{ltb}
 use Rattle.octets.specs.Octets.{beAt, bytesOf, part, Octets}
 use Rattle.octets.proofs.Numbers.{be-drop, be-lt, be-of-bytes, bytes-of-be, length-bytes}
 use Rattle.peer.specs.Peer.{wide, addressSize, asSize, peerSize, octetsAt, addressAt, peerAt, stored, unfit, peerOctets}
 use Rattle.peer.specs.declared.Peer.{Peer}
 use Rattle.peer.proofs.Sizes.{address-le, size-is}
-use Rattle.peer.proofs.Addresses.{length-octets, octets-part}
+use Rattle.peer.proofs.Addresses.{length-octets, octets-part, octets-between}
 use Rattle.octets.proofs.Parts.{part-join}
 
 -- ---- octets of a part
@@ -22,13 +22,6 @@ octets-drop : (s : List ℕ) (p at n : ℕ) → octetsAt (drop p s) at n ≡ oct
 unfolding octetsAt
 octets-drop s p at zero = refl
 octets-drop s p at (suc n) = rw (octets-drop s p at n, getD-drop p s (at + n) 0, add-assoc p at n)
-
--- octets between others
-octets-between : (p x q : List ℕ) (n m : ℕ) → length p ≡ n → length x ≡ m → octetsAt (p ++ x ++ q) n m ≡ x
-octets-between p x q n m e f =
-    let l : n + m ≤ length (p ++ x ++ q) = (let a = length-append (p ++ x) q in let b = length-append p x in omega arith) in
-    let d : drop n (p ++ x ++ q) ≡ x ++ q = ap (drop n) (append-assoc p x q) ∙ drop-at p (x ++ q) n e in
-    octets-part (p ++ x ++ q) n m l ∙ ap (take m) d ∙ take-at x q m f
 
 -- a part of one octet
 part-one : (s : List ℕ) (at : ℕ) → at < length s → getD s at 0 ∷ [] ≡ part s at 1
