@@ -1,6 +1,6 @@
 -- What it is to have the same address, set out plainly: one family, and its octets one by one.
-use Prim.Native.Nat.{ℕ, zero, suc, _%_, _<_, _≤_}
-use mathlib.Core.Path.{_≡_, refl, sym, _∙_, ap}
+use Prim.Native.Nat.{ℕ, zero, suc, _%_, _<_}
+use mathlib.Core.Path.{_≡_, refl, sym, _∙_}
 use mathlib.Core.Logic.{_↔_}
 use mathlib.Core.List.{List}
 use mathlib.Core.Bool.{Bool, true, false, cond, true≢false, _&&_, and-eq-true-iff}
@@ -49,6 +49,12 @@ same-plainly p key = (
   λ h. simp (eq-eqb _ _ (h .kind), octets-alike (addressSize (key .kind)) (p .addr) (key .addr) .1 (h .octet)),
 )
 
+-- the same of a key by family and octets
+pub key-plainly : (p : Peer) (v6 : Bool) (addr : List ℕ) → (sameAddress p (keyOf v6 addr) ≡ true) ↔ HasAddress p (cond v6 1 0) addr
+unfolding keyOf
+key-plainly p true addr = same-plainly p (keyOf true addr)
+key-plainly p false addr = same-plainly p (keyOf false addr)
+
 -- two tests that hold in the same cases are one
 same-test : (x y : Bool) → (x ≡ true → y ≡ true) → (y ≡ true → x ≡ true) → x ≡ y
 same-test true y f g = sym (f refl)
@@ -56,7 +62,7 @@ same-test false true f g = absurd (true≢false (sym (g refl)))
 same-test false false f g = refl
 
 -- a key of the same family and octets asks for the same address
-pub key-same : (p key other : Peer) → key .kind % 2 ≡ other .kind % 2 → key .addr ≡ other .addr → sameAddress p key ≡ sameAddress p other
+key-same : (p key other : Peer) → key .kind % 2 ≡ other .kind % 2 → key .addr ≡ other .addr → sameAddress p key ≡ sameAddress p other
 unfolding sameAddress addressSize
 key-same p key other k a = rw (k, a)
 

@@ -10,7 +10,7 @@ use lib.ListN.{length, getD}
 use lib.Dec.{eqb, ltb}
 use Rattle.peer.specs.Peer.{nobody, keyOf, sameAddress}
 use Rattle.peer.specs.declared.Peer.{Peer}
-use Rattle.peer.proofs.SameAddress.{HasAddress, same-plainly}
+use Rattle.peer.proofs.SameAddress.{HasAddress, key-plainly, key-of}
 use Rattle.peer_slots.specs.Used.{wrongCount}
 use Rattle.peer_slots.proofs.Counts.{used-either, right}
 use Rattle.peers.specs.Find.{Finding, found, lost, highest, lookUp, findPeer}
@@ -129,7 +129,7 @@ module _ (l : List Peer) (count : ℕ) where
   unfolding lookUp
   looked-wrong key w = simp w
 
-  looked-right : (key : Peer) → wrongCount (length l) count ≡ false → lookUp l count key ≡ highest key l count
+  pub looked-right : (key : Peer) → wrongCount (length l) count ≡ false → lookUp l count key ≡ highest key l count
   unfolding lookUp
   looked-right key w = simp w
 
@@ -149,10 +149,25 @@ module _ (l : List Peer) (count : ℕ) where
   -- the 16 or 4 octets that it has.
   pub find-peer-highest : (v6 : Bool) (addr : List ℕ)
       → Exactly (λ j. HasAddress (getD l j nobody) (cond v6 1 0) addr) (length l) count (findPeer l count v6 addr)
-  unfolding findPeer keyOf
-  find-peer-highest v6 addr =
-      exactly-reworded (λ j. rw (family v6) at (same-plainly (getD l j nobody) (keyOf v6 addr))) (look-up-highest (keyOf v6 addr))
-    where
-      family : (b : Bool) → cond b 1 0 % 2 ≡ cond b 1 0
-      family true = refl
-      family false = refl
+  unfolding findPeer
+  find-peer-highest v6 addr = exactly-reworded (λ j. key-plainly (getD l j nobody) v6 addr) (look-up-highest (keyOf v6 addr))
+
+-- ---- what a lookup does not ask
+-- slots after the last one in use
+pub highest-kept : (key : Peer) (l m : List Peer) (n : ℕ) → ((j : ℕ) → j < n → getD m j nobody ≡ getD l j nobody)
+    → highest key m n ≡ highest key l n
+unfolding highest
+highest-kept key l m zero same = refl
+highest-kept key l m (suc n) same = rw (same n (omega arith), highest-kept key l m n (λ j h. same j (omega arith)))
+
+-- what else a key has than its address
+highest-key : (key other : Peer) → ((p : Peer) → sameAddress p key ≡ sameAddress p other) → (l : List Peer) (n : ℕ)
+    → highest key l n ≡ highest other l n
+unfolding highest
+highest-key key other same l zero = refl
+highest-key key other same l (suc n) = rw (same (getD l n nobody), highest-key key other same l n)
+
+-- the lookup of a peer is that of its own family and octets
+pub find-own : (l : List Peer) (count : ℕ) (p : Peer) → findPeer l count (eqb (p .kind % 2) 1) (p .addr) ≡ lookUp l count p
+unfolding findPeer lookUp
+find-own l count p = rw (highest-key (keyOf (eqb (p .kind % 2) 1) (p .addr)) p (λ q. key-of q p) l count)

@@ -3,17 +3,16 @@ use Prim.Native.Nat.{ℕ, zero, suc, _+_, _-_, _^_, _<_, _≤_}
 use mathlib.Core.Path.{_≡_, refl, sym, _∙_, ap}
 use mathlib.Core.List.{List, [], _∷_, _++_, append-assoc}
 use mathlib.Core.Bool.{Bool, true, false}
-use native.Mathlib.Nat.{add-assoc, add-zero, zero-add}
+use native.Mathlib.Nat.{add-assoc, add-zero}
 use native.Mathlib.Omega.{arith}
 use borrow.Author.Tests.{ltb-false, le-ltb}
 use lib.ListN.{length, getD, drop, replicate, length-append}
 use lib.Seq.{drop-cons, getD-drop}
-use lib.Dec.{ltb}
 use Rattle.octets.specs.Octets.{beAt, bytesOf, part, Octets}
 use Rattle.octets.proofs.Numbers.{be-drop, be-lt, be-of-bytes, bytes-of-be, length-bytes}
 use Rattle.peer.specs.Peer.{wide, addressSize, asSize, peerSize, octetsAt, addressAt, peerAt, stored, unfit, peerOctets}
 use Rattle.peer.specs.declared.Peer.{Peer}
-use Rattle.peer.proofs.Sizes.{address-le, size-is}
+use Rattle.peer.proofs.Sizes.{size-is}
 use Rattle.peer.proofs.Addresses.{length-octets, octets-part, octets-between}
 use Rattle.octets.proofs.Parts.{part-join}
 

@@ -1,0 +1,141 @@
+-- What adding a peer gives and keeps: the peer is found by its address, and every other id and address is as it was.
+use Prim.Native.Nat.{ℕ, _+_, _%_, _<_}
+use mathlib.Core.Path.{_≡_, refl, _∙_, ap}
+use mathlib.Core.List.{List}
+use mathlib.Core.Bool.{Bool, true, false, cond}
+use native.Mathlib.Nat.{add-zero}
+use native.Mathlib.Numerals.{add-one}
+use native.Mathlib.Omega.{arith}
+use borrow.Author.Tests.{leb-false, eqb-true}
+use lib.ListN.{length, getD, set, length-set}
+use lib.Seq.{getD-set-same, getD-set-other}
+use lib.Dec.{leb, eqb}
+use Rattle.peer.specs.Peer.{nobody, stored, keyOf, sameAddress}
+use Rattle.peer.specs.declared.Peer.{Peer}
+use Rattle.peer.proofs.SameAddress.{HasAddress, key-plainly, same-self, same-stored}
+use Rattle.peer_slots.specs.Used.{wrongCount}
+use Rattle.peer_slots.proofs.Counts.{right}
+use Rattle.peers.specs.Find.{found, highest, lookUp, findPeer}
+use Rattle.peers.proofs.Highest.{look-up-highest, looked-right, highest-kept, find-own}
+use Rattle.peers_add.specs.Add.{Adding, notAdded, appendPeer, addPeer}
+
+module _ (l : List Peer) (count : ℕ) (p : Peer) where
+  -- the slots with the new peer
+  abbrev grown : List Peer
+  grown = set l count (stored p)
+
+  -- what the call answers, and why
+  data Case : Adding → Type 0 where
+    known : (id : ℕ) → lookUp l count p ≡ found id → Case (record { number = 0; id = id; added = 0; slots = l })
+    new : wrongCount (length l) count ≡ false → count < 65535 → count < length l
+        → Case (record { number = 0; id = count; added = 1; slots = grown })
+    not-taken : (n : ℕ) → (n ≡ 0 → ⊥) → Case (notAdded n l)
+
+  append-case : Case (appendPeer l count p)
+  unfolding appendPeer
+  append-case = by-count (wrongCount (length l) count) refl (leb 65535 count) refl (leb (length l) count) refl
+    where
+      by-count : (a : Bool) → wrongCount (length l) count ≡ a → (b : Bool) → leb 65535 count ≡ b → (c : Bool) → leb (length l) count ≡ c
+          → Case (cond a (notAdded 8 l) (cond b (notAdded 10 l) (cond c (notAdded 9 l)
+          (record { number = 0; id = count; added = 1; slots = grown }))))
+      by-count true w b u c v = not-taken 8 (λ z. omega arith)
+      by-count false w true u c v = not-taken 10 (λ z. omega arith)
+      by-count false w false u true v = not-taken 9 (λ z. omega arith)
+      by-count false w false u false v = new w (leb-false _ _ u) (leb-false _ _ v)
+
+  case : Case (addPeer l count p)
+  unfolding addPeer
+  case = by-known (eqb (lookUp l count p .number) 0) refl
+    where
+      by-known : (t : Bool) → eqb (lookUp l count p .number) 0 ≡ t
+          → Case (cond t (record { number = 0; id = lookUp l count p .id; added = 0; slots = l }) (appendPeer l count p))
+      by-known true e = known (lookUp l count p .id) (look-up-highest l count p .zero-found (eqb-true _ _ e))
+      by-known false e = append-case
+
+  -- the first slots, and every other than the new one, keep their peers
+  grown-kept : (j : ℕ) → (j ≡ count → ⊥) → getD grown j nobody ≡ getD l j nobody
+  grown-kept j n = getD-set-other l count j (stored p) nobody n
+
+  module _ (w : wrongCount (length l) count ≡ false) (few : count < 65535) (room : count < length l) where
+    last-there : getD grown count nobody ≡ stored p
+    last-there = getD-set-same l count (stored p) nobody room
+
+    -- a lookup after it asks the new slot first
+    look-grown : (key : Peer) → lookUp grown (count + 1) key ≡ cond (sameAddress p key) (found count) (lookUp l count key)
+    unfolding highest
+    look-grown key =
+        let z : length grown ≡ length l = length-set l count (stored p) in
+        looked-right grown (count + 1) key (right (length grown) (count + 1) (omega arith) (omega arith))
+        ∙ ap (highest key grown) (add-one count)
+        ∙ rw (
+          last-there,
+          same-stored p key,
+          highest-kept key l grown count (λ j h. grown-kept j (λ q. omega arith)),
+          ← looked-right l count key w,
+        )
+
+  -- what an accepted call has done
+  pub record Done (a : Adding) : Type 0 where
+    -- the peer is found under its id, by its record and by its own family and octets
+    pub found-after : lookUp (a .slots) (count + a .added) p ≡ found (a .id)
+    pub found-by-address : findPeer (a .slots) (count + a .added) (eqb (p .kind % 2) 1) (p .addr) ≡ found (a .id)
+    -- slots: only the one at the count may change, and only where the peer is new, which it then holds as stored
+    pub known-kept : a .added ≡ 0 → a .slots ≡ l
+    pub new-stored : (a .added ≡ 0 → ⊥) → (a .added ≡ 1) × (a .id ≡ count) × (getD (a .slots) (a .id) nobody ≡ stored p)
+    pub others-kept : (j : ℕ) → (j ≡ count → ⊥) → getD (a .slots) j nobody ≡ getD l j nobody
+    pub length-kept : length (a .slots) ≡ length l
+    -- lookups of other addresses answer as before
+    pub other-kept : (key : Peer) → sameAddress p key ≡ false → lookUp (a .slots) (count + a .added) key ≡ lookUp l count key
+    pub other-address-kept : (v6 : Bool) (addr : List ℕ) → (HasAddress p (cond v6 1 0) addr → ⊥)
+        → findPeer (a .slots) (count + a .added) v6 addr ≡ findPeer l count v6 addr
+
+  other-key : (v6 : Bool) (addr : List ℕ) → (HasAddress p (cond v6 1 0) addr → ⊥) → sameAddress p (keyOf v6 addr) ≡ false
+  other-key v6 addr n = by-test (sameAddress p (keyOf v6 addr)) refl
+    where
+      by-test : (t : Bool) → sameAddress p (keyOf v6 addr) ≡ t → t ≡ false
+      by-test true e = absurd (n (key-plainly p v6 addr .0 e))
+      by-test false e = refl
+
+  -- by what holds of every lookup after the call
+  done : (a : Adding) → lookUp (a .slots) (count + a .added) p ≡ found (a .id)
+      → (a .added ≡ 0 → a .slots ≡ l)
+      → ((a .added ≡ 0 → ⊥) → (a .added ≡ 1) × (a .id ≡ count) × (getD (a .slots) (a .id) nobody ≡ stored p))
+      → ((j : ℕ) → (j ≡ count → ⊥) → getD (a .slots) j nobody ≡ getD l j nobody)
+      → length (a .slots) ≡ length l
+      → ((key : Peer) → sameAddress p key ≡ false → lookUp (a .slots) (count + a .added) key ≡ lookUp l count key)
+      → Done a
+  unfolding findPeer
+  done a there same fresh others long apart =
+      record {
+        found-after = there;
+        found-by-address = find-own (a .slots) (count + a .added) p ∙ there;
+        known-kept = same;
+        new-stored = fresh;
+        others-kept = others;
+        length-kept = long;
+        other-kept = apart;
+        other-address-kept = λ v6 addr n. apart (keyOf v6 addr) (other-key v6 addr n);
+      }
+
+  by-case : (a : Adding) → Case a → a .number ≡ 0 → Done a
+  by-case a (known id e) z =
+      let k : count + 0 ≡ count = add-zero count in
+      done a (ap (λ (n : ℕ). lookUp l n p) k ∙ e) (λ y. refl) (λ y. absurd (y refl)) (λ j n. refl) refl
+      (λ key n. ap (λ (m : ℕ). lookUp l m key) k)
+  by-case a (new w few room) z =
+      done a (look-grown w few room p ∙ rw (same-self p)) (λ y. absurd (omega arith)) (λ y. (refl, refl, last-there w few room)) grown-kept
+      (length-set l count (stored p)) (λ key n. look-grown w few room key ∙ rw n)
+  by-case a (not-taken n f) z = absurd (f z)
+
+  -- THEOREM. A peer that was added, or known, is found by its address, and every other id and address is as it was.
+  pub add-keeps : addPeer l count p .number ≡ 0 → Done (addPeer l count p)
+  add-keeps = by-case (addPeer l count p) case
+
+  -- THEOREM. A refused peer changes nothing.
+  pub refused-keeps : (addPeer l count p .number ≡ 0 → ⊥) → addPeer l count p .slots ≡ l
+  refused-keeps n = refusal (addPeer l count p) case n
+    where
+      refusal : (a : Adding) → Case a → (a .number ≡ 0 → ⊥) → a .slots ≡ l
+      refusal a (known id e) f = refl
+      refusal a (new w few room) f = absurd (f refl)
+      refusal a (not-taken n g) f = refl
