@@ -6,15 +6,17 @@ use mathlib.Core.Bool.{Bool, true, false, cond}
 use native.Mathlib.Nat.{add-zero}
 use native.Mathlib.Numerals.{add-one}
 use native.Mathlib.Omega.{arith}
-use borrow.Author.Tests.{leb-false, eqb-true}
+use borrow.Author.Tests.{leb-false, eqb-true, eqb-false}
 use lib.ListN.{length, getD, set, length-set}
 use lib.Seq.{getD-set-same, getD-set-other}
 use lib.Dec.{leb, eqb}
 use Rattle.peer.specs.Peer.{nobody, stored, keyOf, sameAddress}
 use Rattle.peer.specs.declared.Peer.{Peer}
+use Rattle.peer.proofs.Stored.{stored-stored}
 use Rattle.peer.proofs.SameAddress.{HasAddress, key-plainly, same-self, same-stored}
 use Rattle.peer_slots.specs.Used.{wrongCount}
 use Rattle.peer_slots.proofs.Counts.{right}
+use Rattle.peer_slots.proofs.AsStored.{AsStored}
 use Rattle.peers.specs.Find.{found, highest, lookUp, findPeer}
 use Rattle.peers.proofs.Highest.{look-up-highest, looked-right, highest-kept, find-own}
 use Rattle.peers_add.specs.Add.{Adding, notAdded, appendPeer, addPeer}
@@ -139,3 +141,23 @@ module _ (l : List Peer) (count : ℕ) (p : Peer) where
       refusal a (known id e) f = refl
       refusal a (new w few room) f = absurd (f refl)
       refusal a (not-taken n g) f = refl
+
+  -- THEOREM. Peers that are as they are stored stay so, the new one with them.
+  pub add-as-stored : AsStored l count → AsStored (addPeer l count p .slots) (count + addPeer l count p .added)
+  add-as-stored kept = by-added (addPeer l count p) case
+    where
+      grown-stored : count < length l → (i : ℕ) → i < count + 1 → stored (getD grown i nobody) ≡ getD grown i nobody
+      grown-stored room i h = by-last (eqb i count) refl
+        where
+          by-last : (t : Bool) → eqb i count ≡ t → stored (getD grown i nobody) ≡ getD grown i nobody
+          by-last true t =
+              let e : i ≡ count = eqb-true i count t in
+              rw (e, getD-set-same l count (stored p) nobody room) (stored-stored p)
+          by-last false t =
+              let e : i ≡ count → ⊥ = eqb-false i count t in
+              rw (grown-kept i e) (kept i (omega arith))
+
+      by-added : (a : Adding) → Case a → AsStored (a .slots) (count + a .added)
+      by-added a (known id e) i h = kept i (omega arith)
+      by-added a (new w few room) i h = grown-stored room i h
+      by-added a (not-taken n f) i h = kept i (omega arith)

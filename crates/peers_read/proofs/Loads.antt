@@ -5,18 +5,21 @@ use mathlib.Core.List.{List}
 use mathlib.Core.Bool.{Bool, true, false}
 use native.Mathlib.Numerals.{add-one}
 use native.Mathlib.Omega.{arith}
-use borrow.Author.Tests.{lt-ltb, le-ltb, ltb-false}
-use lib.ListN.{length, set, getD}
-use lib.Dec.{ltb}
+use borrow.Author.Tests.{lt-ltb, le-ltb, ltb-false, eqb-true, eqb-false}
+use lib.ListN.{length, set, getD, length-set}
+use lib.Seq.{getD-set-same, getD-set-other}
+use lib.Dec.{ltb, eqb}
 use Rattle.answer.specs.Refusal.{numberOf}
 use Rattle.answer.specs.declared.Refusal.{Refusal}
-use Rattle.peer.specs.Peer.{peerSize, peerAt, Reading, readPeer}
+use Rattle.peer.specs.Peer.{nobody, peerSize, peerAt, Reading, readPeer}
 use Rattle.table.specs.Table.{Heading, heading, refused, endAt, checkPeers}
 use Rattle.peer.specs.declared.Peer.{Peer}
 use Rattle.table.specs.declared.TableAnswer.{TableAnswer}
 use Rattle.table.specs.declared.TableAnswer.the-variants as B
 use Rattle.table.proofs.Tables.{end-none, end-more, held-within}
 use Rattle.peer.proofs.Records.{read-fits}
+use Rattle.peer.proofs.Stored.{stored-read}
+use Rattle.peer_slots.proofs.AsStored.{AsStored}
 use Rattle.peers_read.specs.Load.{filled, headFor, loadPeers, loading}
 
 -- ---- the head for so many slots
@@ -99,3 +102,35 @@ unfolding loadPeers
 load-is s l r {t} {first} {count} {i} h c f u v e =
     let j : i ≡ headFor s (length l) .count = (let z : i ≡ count = omega arith in z) ∙ c in
     rw (h, e, j, f)
+
+-- ---- slots that were filled
+module _ (s : List ℕ) (at : ℕ) (l : List Peer) where
+  pub length-filled : (n : ℕ) → length (filled s at l n) ≡ length l
+  unfolding filled
+  length-filled zero = refl
+  length-filled (suc n) = length-set (filled s at l n) n (peerAt s (endAt s at n)) ∙ length-filled n
+
+  pub get-filled : (n i : ℕ) → i < n → n ≤ length l → getD (filled s at l n) i nobody ≡ peerAt s (endAt s at i)
+  unfolding filled
+  get-filled zero i h k = absurd (omega arith)
+  get-filled (suc n) i h k = case (eqb i n) refl (λ m. get-filled n i m (omega arith))
+    where
+      inside : n < length (filled s at l n)
+      inside = let e : length (filled s at l n) ≡ length l = length-filled n in omega arith
+
+      case : (t : Bool) → eqb i n ≡ t → (i < n → getD (filled s at l n) i nobody ≡ peerAt s (endAt s at i))
+          → getD (filled s at l (suc n)) i nobody ≡ peerAt s (endAt s at i)
+      case true t f = let e : i ≡ n = eqb-true _ _ t in rw e (getD-set-same (filled s at l n) n (peerAt s (endAt s at n)) nobody inside)
+      case false t f =
+          let e : i ≡ n → ⊥ = eqb-false _ _ t in
+          let m : i < n = omega arith in
+          getD-set-other (filled s at l n) n i (peerAt s (endAt s at n)) nobody e ∙ f m
+
+-- THEOREM. Peers that were loaded are as they are stored.
+pub load-as-stored : (s : List ℕ) (l : List Peer) → AsStored (loadPeers s l .slots) (loadPeers s l .head .count)
+unfolding loadPeers
+load-as-stored s l i h =
+    let first : ℕ = headFor s (length l) .first in
+    let e : getD (filled s first l (headFor s (length l) .count)) i nobody ≡ peerAt s (endAt s first i) =
+    get-filled s first l (headFor s (length l) .count) i h (head-le s (length l)) in
+    rw e (stored-read s (endAt s first i))

@@ -1,23 +1,22 @@
 -- A table there and back: what was read is written as the same octets, less what stands after the last peer; and what is written
--- is read as the same peers, where an address's octets that are not in use are zero.
+-- is read as the same peers, where they are as they are stored: an address's octets that are not in use are zero.
 use Prim.Native.Nat.{ℕ, zero, suc, _+_, _-_, _^_, _<_, _≤_}
-use mathlib.Core.Path.{_≡_, refl, sym, _∙_, ap, subst}
-use mathlib.Core.List.{List, [], _∷_, _++_, append-assoc}
-use mathlib.Core.Bool.{Bool, true, false, cond, _||_}
-use mathlib.Core.Logic.{⊎-elim}
-use native.Mathlib.Nat.{zero-add, add-assoc, add-zero, add-suc, suc-add}
+use mathlib.Core.Path.{_≡_, refl, sym, _∙_, ap}
+use mathlib.Core.List.{List, [], _++_, append-assoc}
+use mathlib.Core.Bool.{Bool, true, false, cond}
+use native.Mathlib.Nat.{zero-add, add-zero, suc-add}
 use native.Mathlib.Numerals.{add-one}
 use native.Mathlib.Omega.{arith}
-use borrow.Author.Tests.{le-ltb, le-leb, lt-leb, leb-true, leb-false, ltb-true, ltb-false, eqb-true, eqb-false}
-use lib.ListN.{length, getD, set, take, drop, length-append, length-drop, length-set, length-take}
-use lib.Seq.{take-append-seam, drop-append-add, drop-append-seam, drop-at, getD-drop, getD-set-same, getD-set-other, length-take-le}
+use borrow.Author.Tests.{le-ltb, le-leb, leb-true, ltb-false, eqb-true, eqb-false}
+use lib.ListN.{length, getD, take, drop, length-append, length-drop, length-take}
+use lib.Seq.{take-append-seam, drop-append-add, drop-at, getD-drop, length-take-le}
 use lib.Dec.{leb, ltb, eqb}
-use Rattle.answer.specs.Writing.{Writing, refuse, atFront}
+use Rattle.answer.specs.Writing.{Writing, atFront}
 use Rattle.octets.specs.Octets.{beAt, bytesOf, part, Octets}
 use Rattle.octets.proofs.Parts.{part-join}
 use Rattle.octets.proofs.Numbers.{be-of-bytes, bytes-of-be, length-bytes}
 use Rattle.peer.specs.Peer.{nobody, peerSize, peerAt, peerOctets, stored, unfit}
-use Rattle.table.specs.Table.{Heading, refused, endAt, nameLength, peerCount, firstPeer, lastEnd, checkPeers}
+use Rattle.table.specs.Table.{Heading, endAt, nameLength, peerCount, firstPeer, lastEnd, checkPeers}
 use Rattle.peer.specs.declared.Peer.{Peer}
 use Rattle.octets.proofs.Numbers.{be-lt}
 use Rattle.table.proofs.Tables.{end-none, end-more, end-le}
@@ -26,32 +25,12 @@ use Rattle.peer_slots.specs.Used.{wrongCount}
 use Rattle.peers_read.specs.Load.{filled, headFor, loadPeers}
 use Rattle.peers_write.specs.Write.{headOctets, peersOctets, anyUnfit, tableOctets, writePeers}
 use Rattle.peers_write.specs.Steps.{sizes}
-use Rattle.peer_slots.proofs.Counts.{right}
-use Rattle.peer_slots.proofs.Counts.{used-either}
+use Rattle.peer_slots.proofs.Counts.{right, used-either}
+use Rattle.peer_slots.proofs.AsStored.{AsStored}
+use Rattle.peers_read.proofs.Loads.{length-filled, get-filled, load-as-stored}
+use Rattle.peers_add.proofs.Keeps.{add-as-stored}
+use Rattle.round_trips.specs.Reached.{Reached, none, loaded, added}
 use Rattle.peers_write.proofs.Writes.{length-head, length-peers}
-
--- ---- slots that were filled
-module _ (s : List ℕ) (at : ℕ) (l : List Peer) where
-  pub length-filled : (n : ℕ) → length (filled s at l n) ≡ length l
-  unfolding filled
-  length-filled zero = refl
-  length-filled (suc n) = length-set (filled s at l n) n (peerAt s (endAt s at n)) ∙ length-filled n
-
-  pub get-filled : (n i : ℕ) → i < n → n ≤ length l → getD (filled s at l n) i nobody ≡ peerAt s (endAt s at i)
-  unfolding filled
-  get-filled zero i h k = absurd (omega arith)
-  get-filled (suc n) i h k = case (eqb i n) refl (λ m. get-filled n i m (omega arith))
-    where
-      inside : n < length (filled s at l n)
-      inside = let e : length (filled s at l n) ≡ length l = length-filled n in omega arith
-
-      case : (t : Bool) → eqb i n ≡ t → (i < n → getD (filled s at l n) i nobody ≡ peerAt s (endAt s at i))
-          → getD (filled s at l (suc n)) i nobody ≡ peerAt s (endAt s at i)
-      case true t f = let e : i ≡ n = eqb-true _ _ t in rw e (getD-set-same (filled s at l n) n (peerAt s (endAt s at n)) nobody inside)
-      case false t f =
-          let e : i ≡ n → ⊥ = eqb-false _ _ t in
-          let m : i < n = omega arith in
-          getD-set-other (filled s at l n) n i (peerAt s (endAt s at n)) nobody e ∙ f m
 
 -- ---- a body that is accepted
 abbrev Accepted : List ℕ → Heading
@@ -422,3 +401,15 @@ module _ (out : List ℕ) (collector : ℕ) (view : List ℕ) (l : List Peer) (c
       let r : List ℕ = drop (length Body) out in
       let b = read-back collector view l count r c (w .1) k (w .2) fit m h in
       rw e (b .0, view-back collector view l count r c (w .1) k (w .2) fit, b .1)
+
+  -- THEOREM. Where the peers are as they are stored, what was written is read as the same peers.
+  pub read-of-write-same : Done .number ≡ 0 → collector < 256 ^ 4 → Fitting l count → AsStored l count
+      → (m : List Peer) → count ≤ length m
+      → (i : ℕ) → i < count → getD (loadPeers (Done .output) m .slots) i nobody ≡ getD l i nobody
+  read-of-write-same z c fit kept m h i k = read-of-write z c fit m h .2 i k ∙ kept i k
+
+-- THEOREM. Peers that the calls have put into slots, by whatever run of them, are as they are stored; so they come back the same.
+pub reached-as-stored : {l : List Peer} {n : ℕ} → Reached l n → AsStored l n
+reached-as-stored (none l) = λ i h. absurd (omega arith)
+reached-as-stored (loaded s l) = load-as-stored s l
+reached-as-stored (added l n p r) = add-as-stored l n p (reached-as-stored r)
