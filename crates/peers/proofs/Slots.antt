@@ -1,37 +1,20 @@
--- Slots read: one of them, and one turn of a lookup.
+-- One turn of a lookup over slots.
 use Prim.Native.Nat.{ℕ, zero, suc, _+_, _-_, _<_, _≤_}
 use mathlib.Core.Path.{_≡_, refl, sym, _∙_, ap, subst}
 use mathlib.Core.List.{List}
 use mathlib.Core.Bool.{Bool, true, false, cond, _&&_}
 use native.Mathlib.Omega.{arith}
-use borrow.Author.Tests.{lt-leb, le-leb}
+use borrow.Author.Tests.{le-leb}
 use lib.ListN.{length, getD}
 use lib.Dec.{leb}
 use Rattle.peer.specs.Peer.{nobody, keyOf, sameAddress}
 use Rattle.peer.specs.declared.Peer.{Peer}
 use Rattle.peer_slots.specs.Used.{wrongCount, inUse}
 use Rattle.peer_slots.proofs.Counts.{used-either}
-use Rattle.peers.specs.Slots.{peerOf}
 use Rattle.peers.specs.Find.{Finding, found, lost, highest, lookUp, findPeer}
 use Rattle.peers.specs.Steps.{judged}
 
--- ---- one peer
-module _ (l : List Peer) (count id : ℕ) where
-  pub slot-held : {m : ℕ} → m ≡ inUse (length l) count → id < m → record { number = 0; peer = getD l id nobody } ≡ peerOf l count id
-  unfolding peerOf
-  slot-held e h =
-      used-either (length l) count
-      (λ w z. absurd (omega arith))
-      (λ w z u v. let k : id < count = omega arith in simp (w, lt-leb count id k))
-
-  pub slot-none : {m : ℕ} → m ≡ inUse (length l) count → m ≤ id → record { number = 8; peer = nobody } ≡ peerOf l count id
-  unfolding peerOf
-  slot-none e h =
-      used-either (length l) count
-      (λ w z. simp w)
-      (λ w z u v. let k : count ≤ id = omega arith in simp (w, le-leb count id k))
-
--- ---- a lookup, from the last of the m slots in use on
+-- a lookup, from the last of the m slots in use on
 module _ (key : Peer) (l : List Peer) (count : ℕ) where
   -- c slots are left to look at, and f is the answer so far
   pub data Pending (m : ℕ) : ℕ → Finding → Type 0 where

@@ -1,16 +1,9 @@
 -- Two answers that say the same are the same answer: the statements of the calls leave no choice.
 use mathlib.Core.Path.{_≡_, sym, ap}
-use Rattle.answer.proofs.Refusals.{number-not-zero, number-unique, outcome-unique}
-use Rattle.peers.specs.Slots.{Slot, slot}
+use Rattle.answer.proofs.Refusals.{number-not-zero, number-unique}
 use Rattle.peers.specs.Find.{Finding, finding}
-use Rattle.peers.specs.declared.PeerAnswer.{PeerAnswer}
 use Rattle.peers.specs.declared.FindAnswer.{FindAnswer}
 use Rattle.peers.specs.declared.FindAnswer.the-variants.{Id, Refused}
-
-pub slot-unique : (a b : PeerAnswer) → slot a ≡ slot b → a ≡ b
-slot-unique a b e =
-    let o : a .outcome ≡ b .outcome = outcome-unique (a .outcome) (b .outcome) (ap (λ (x : Slot). x .number) e) in
-    λ i. record { outcome = o i; peer = e i .peer }
 
 pub finding-unique : (a b : FindAnswer) → finding a ≡ finding b → a ≡ b
 finding-unique (Id m) (Id n) e = λ i. Id (e i .id)

@@ -1,4 +1,3 @@
--- Slots: one of the slots in use. Find: a lookup. Steps: what the calls' own helpers decide.
-pub mod Slots
+-- Find: a lookup. Steps: what the calls' own helpers decide.
 pub mod Find
 pub mod Steps

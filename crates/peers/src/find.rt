@@ -1,25 +1,10 @@
-// Slots read: one of them, and a lookup by address.
+// A lookup by address.
 ghost use mathlib.Core.Path.{_≡_};
-ghost use Rattle.peers.specs.Slots.{peerOf, slot};
 ghost use Rattle.peers.specs.Find.{findPeer, finding, lookUp};
 use crate::FindAnswer;
-use crate::PeerAnswer;
 use crate::step::begin_search;
-use crate::step::held;
 use crate::step::judge;
-use crate::step::not_held;
 use peer::Peer;
-
-// The peer of an id, where count slots are in use.
-pub fn peer_at(slots: &[Peer], count: usize, id: usize) -> PeerAnswer
-    ensures answer { λ r. ⌜ slot r ≡ peerOf (now (slots .entry)) count id ⌝ }
-{
-    let used = peer_slots::in_use(slots.len(), count);
-    if id < used {
-        return held(slots[id]);
-    }
-    not_held()
-}
 
 // The highest id that holds the key's address.
 pub fn look_up(slots: &[Peer], count: usize, key: Peer) -> FindAnswer

@@ -1,20 +1,11 @@
-// The PEER_INDEX_TABLE (RFC 6396, 4.3.1) in a lent list of peer records: one record, and a lookup by address.
+// The PEER_INDEX_TABLE (RFC 6396, 4.3.1) in a lent list of peer records: a lookup by address.
 // The functions over slots move whole records; what they decide, they ask of functions by value.
 mod find;
 mod step;
 
-use answer::Outcome;
 use answer::Refusal;
 pub use find::find_peer;
 pub use find::look_up;
-pub use find::peer_at;
-use peer::Peer;
-
-// What asking for the peer of an id answers.
-pub struct PeerAnswer {
-    pub outcome: Outcome,
-    pub peer: Peer,
-}
 
 // What a lookup answers.
 pub enum FindAnswer {

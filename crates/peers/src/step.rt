@@ -1,41 +1,12 @@
-// What the functions over slots ask, by value.
+// What the lookup asks, by value.
 ghost use mathlib.Core.Path.{_≡_};
-ghost use Rattle.peer.specs.Peer.{nobody};
 ghost use Rattle.peer_slots.specs.Used.{inUse};
-ghost use Rattle.peers.specs.Slots.{slot};
 ghost use Rattle.peers.specs.Find.{finding, lost};
 ghost use Rattle.peers.specs.Steps.{judged};
 use crate::FindAnswer;
-use crate::PeerAnswer;
 use crate::Search;
-use answer::Outcome;
 use answer::Refusal;
 use peer::Peer;
-
-// A peer that is handed out.
-pub(crate) fn held(p: Peer) -> PeerAnswer
-    ensures { λ r. ⌜ slot r ≡ record { number = 0; peer = p } ⌝ }
-{
-    PeerAnswer {
-        outcome: Outcome::Accepted,
-        peer: p,
-    }
-}
-
-// No peer of that id.
-pub(crate) fn not_held() -> PeerAnswer
-    ensures { λ r. ⌜ slot r ≡ record { number = 8; peer = nobody } ⌝ }
-{
-    PeerAnswer {
-        outcome: Outcome::Refused(Refusal::Beyond),
-        peer: Peer {
-            kind: 0,
-            id: 0,
-            addr: [0u8; 16],
-            asn: 0,
-        },
-    }
-}
 
 // A lookup before its first turn.
 pub(crate) fn begin_search(slots: usize, count: usize) -> Search

@@ -1,16 +1,14 @@
-// Reading a whole RIB body: its head, how many of its entries are there, and the attributes of one.
+// Reading a whole RIB body: its head, and how many of its entries are there.
 ghost use mathlib.Core.Path.{_≡_};
-ghost use Prim.Native.Nat.{_+_, _-_, _≤_};
+ghost use Prim.Native.Nat.{_+_, _≤_};
 ghost use lib.ListN.{length};
 ghost use Rattle.answer.specs.Refusal.{numberOf};
-ghost use Rattle.octets.specs.Octets.{part};
 ghost use Rattle.rib_head.specs.Layout.{prefixSize};
 ghost use Rattle.rib.specs.Rib.{ribValues, noRib, prefixAt, ribOf};
 use crate::Rib;
 use answer::Outcome;
 use answer::Refusal;
 use rib_entries::CursorAnswer;
-use rib_entries::Entry;
 
 // The head of a body, with the declared count and how many entries fit.
 pub fn read_rib(body: &[u8], subtype: u16) -> Rib
@@ -59,23 +57,4 @@ fn refused(r: Refusal) -> Rib
         count: 0,
         entries: 0,
     }
-}
-
-// The octets of an entry's attributes.
-pub fn attributes(body: &[u8], e: Entry) -> &[u8]
-    ensures answer { λ r. ⌜ now r ≡ part (now (body .entry)) (e .start) (e .end - e .start) ⌝ }
-{
-    let n = body.len();
-    let start = e.start;
-    let end = e.end;
-    if n <= start {
-        return &body[..0];
-    }
-    if end <= start {
-        return &body[..0];
-    }
-    if n < end {
-        return &body[start..];
-    }
-    &body[start..end]
 }

@@ -2,7 +2,6 @@
 mod body;
 
 use answer::Outcome;
-pub use body::attributes;
 pub use body::read_rib;
 
 pub struct Rib {

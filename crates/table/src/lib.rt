@@ -3,7 +3,6 @@ mod table;
 
 use answer::Refusal;
 pub use table::check_peers;
-pub use table::view_name;
 
 // What the check of a body answers.
 pub enum TableAnswer {

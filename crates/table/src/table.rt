@@ -1,6 +1,5 @@
 // The body of the table.
 ghost use mathlib.Core.Path.{_≡_};
-ghost use Rattle.octets.specs.Octets.{part};
 ghost use Rattle.table.specs.Table.{checkPeers, heading};
 use crate::TableAnswer;
 use answer::Refusal;
@@ -36,19 +35,4 @@ pub fn check_peers(body: &[u8]) -> TableAnswer
         first: 8 + length,
         end: at,
     }
-}
-
-// The view name, a part of the body.
-pub fn view_name(body: &[u8], start: usize, length: usize) -> &[u8]
-    ensures answer { λ r. ⌜ now r ≡ part (now (body .entry)) start length ⌝ }
-{
-    let n = body.len();
-    if n < start {
-        return &body[n..];
-    }
-    if n - start < length {
-        return &body[start..];
-    }
-    let end = start + length;
-    &body[start..end]
 }
