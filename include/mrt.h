@@ -243,8 +243,8 @@ int64_t mrt_age(uint32_t timestamp, uint32_t originated);
 uint32_t mrt_candidate(const uint8_t *s, size_t s_len, size_t at, uint64_t *out, size_t out_len);
 
 /*
- * The check of a body by the type, subtype and stored length of its record. Returns 0, 5 for a type that is not carried, 6 or
- * 7. Of type 5 the octets are not looked at.
+ * The check of a body by the type, subtype and stored length of its record. Returns 0, 2 for a type that is not known, 5 for
+ * one that is not carried, 6 or 7. Of type 5 the octets are not looked at.
  */
 uint32_t mrt_check_body(const uint8_t *body, size_t body_len, uint16_t type, uint16_t subtype, uint32_t stored);
 

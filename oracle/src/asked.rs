@@ -76,6 +76,9 @@ fn asked(question: &Question, subject: &dyn Subject) -> Vec<Asked> {
         }
         (Question::Frame { stream, at }, Reply::Frame(answer)) => vec![Asked::of(2, stream, &[at], frame(&answer))],
         (Question::Judge { stream, at }, Reply::Frame(answer)) => judged(stream, at, &answer, subject),
+        (Question::BodyCheck { kind, subtype, stored, body }, Reply::Checked(refusal)) => {
+            vec![checked(kind, subtype, stored, body, refusal)]
+        }
         (Question::Candidate { stream, at }, Reply::Candidate(answer)) => {
             vec![Asked::of(5, stream, &[at], candidate(&answer))]
         }
@@ -143,15 +146,15 @@ fn judged(stream: &[u8], at: usize, answer: &Answer<Frame>, subject: &dyn Subjec
         _ => None,
     };
     let body = framed.map(|Frame { header: Header { kind, subtype, stored, .. }, body, end }| {
-        let numbers = [kind.into(), subtype.into(), stored as usize];
-        Asked::of(
-            6,
-            &stream[body..end],
-            &numbers,
-            if answer.refusal == 0 { Vec::new() } else { octets(&[answer.refusal.into()]) },
-        )
+        checked(kind, subtype, stored, &stream[body..end], answer.refusal)
     });
     std::iter::once(record).chain(body).collect()
+}
+
+/// The check of a body: nothing where it passes.
+fn checked(kind: u16, subtype: u16, stored: u32, body: &[u8], refusal: u8) -> Asked {
+    let expected = if refusal == 0 { Vec::new() } else { octets(&[refusal.into()]) };
+    Asked::of(6, body, &[kind.into(), subtype.into(), stored as usize], expected)
 }
 
 /// The check of a table, all of its peers, and the first one alone where the table declares one and has no name.

@@ -35,6 +35,8 @@ pub fn may_be_silent(question: &Question, of_reading: &Reply) -> bool {
     match *question {
         Question::HeaderRead { .. } | Question::Frame { .. } | Question::Judge { .. } => refused == 8,
         Question::Candidate { stream, at } | Question::Aligned { stream, from: at, .. } => at > stream.len(),
+        // The crate has no check of a body by itself.
+        Question::BodyCheck { .. } => true,
         // A scan may stop among the octets that are put before the place in question.
         Question::Scan { .. } => true,
         Question::Step { stream, walk, .. } => walk.finished || walk.position > stream.len(),
@@ -71,6 +73,7 @@ fn refusal(reply: &Reply) -> u8 {
         Reply::Id(answer) | Reply::Added(answer, _) | Reply::Written(answer, _) => answer.refusal,
         Reply::Rib(answer) => answer.refusal,
         Reply::Entry(answer) => answer.refusal,
+        Reply::Checked(refusal) => *refusal,
         _ => 0,
     }
 }

@@ -161,6 +161,10 @@ impl Subject for Proved {
         Some(Answer { refusal: refusal as u8, value: frame(&values[1..]) })
     }
 
+    fn body_check(&self, kind: u16, subtype: u16, stored: u32, body: &[u8]) -> Option<u8> {
+        Some(exports::check_body(body, kind, subtype, stored) as u8)
+    }
+
     /// The slots come from one call and the values from the other, which asks for no slots.
     fn peer_read(&self, body: &[u8], slots: &mut [Peer]) -> Option<Answer<PeerTable>> {
         let refusal = exports::load_peers(body, slots);

@@ -12,6 +12,7 @@ pub enum Question<'a> {
     HeaderWrite { room: &'a [u8], header: Header },
     Frame { stream: &'a [u8], at: usize },
     Judge { stream: &'a [u8], at: usize },
+    BodyCheck { kind: u16, subtype: u16, stored: u32, body: &'a [u8] },
     PeerRead { body: &'a [u8], slots: &'a [Peer] },
     PeerFind { slots: &'a [Peer], count: usize, address: Address },
     PeerAdd { slots: &'a [Peer], count: usize, peer: Peer },
@@ -32,6 +33,7 @@ pub enum Question<'a> {
 pub enum Reply {
     Header(Answer<Header>),
     Frame(Answer<Frame>),
+    Checked(u8),
     Id(Answer<usize>),
     Table(Answer<PeerTable>, Vec<Peer>),
     Added(Answer<usize>, Vec<Peer>),
@@ -58,6 +60,9 @@ impl Question<'_> {
             Question::HeaderRead { stream, at } => subject.header_read(stream, at).map(Reply::Header),
             Question::Frame { stream, at } => subject.frame(stream, at).map(Reply::Frame),
             Question::Judge { stream, at } => subject.judge(stream, at).map(Reply::Frame),
+            Question::BodyCheck { kind, subtype, stored, body } => {
+                subject.body_check(kind, subtype, stored, body).map(Reply::Checked)
+            }
             Question::Candidate { stream, at } => subject.candidate(stream, at).map(Reply::Candidate),
             Question::Aligned { stream, from, asked } => subject.aligned(stream, from, asked).map(Reply::Tried),
             Question::Scan { stream, from, window, asked } => {
@@ -113,6 +118,7 @@ impl Question<'_> {
             Question::HeaderWrite { .. } => "header write",
             Question::Frame { .. } => "frame",
             Question::Judge { .. } => "judge",
+            Question::BodyCheck { .. } => "body check",
             Question::PeerRead { .. } => "peer table read",
             Question::PeerFind { .. } => "peer find",
             Question::PeerAdd { .. } => "peer add",
@@ -142,7 +148,10 @@ impl Question<'_> {
             | Question::Step { stream, .. }
             | Question::Walk { stream, .. }
             | Question::Causes { stream, .. } => stream,
-            Question::PeerRead { body, .. } | Question::RibRead { body, .. } | Question::RibEntry { body, .. } => body,
+            Question::BodyCheck { body, .. }
+            | Question::PeerRead { body, .. }
+            | Question::RibRead { body, .. }
+            | Question::RibEntry { body, .. } => body,
             Question::RibAdd { buffer, length, .. } => buffer.get(..length).unwrap_or(buffer),
             _ => &[],
         }

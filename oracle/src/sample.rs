@@ -78,6 +78,7 @@ fn way(question: &Question, reply: &Reply) -> String {
     let detail = match reply {
         Reply::Header(answer) => format!("{} {}", answer.refusal, answer.value.kind),
         Reply::Frame(answer) => format!("{} {}", answer.refusal, answer.value.header.kind),
+        Reply::Checked(refusal) => format!("{refusal}"),
         Reply::Candidate(answer) => format!("{} {}", answer.family, answer.evidence),
         Reply::Step(event, _) => shape(event),
         Reply::Table(answer, _) => format!("{} {}", answer.refusal, answer.value.count),

@@ -27,6 +27,11 @@ pub trait Subject {
         None
     }
 
+    /// Answers 0 or the refusal of a body by itself.
+    fn body_check(&self, kind: u16, subtype: u16, stored: u32, body: &[u8]) -> Option<u8> {
+        None
+    }
+
     fn peer_read(&self, body: &[u8], slots: &mut [Peer]) -> Option<Answer<PeerTable>> {
         None
     }
@@ -147,6 +152,10 @@ impl Subject for Reading {
 
     fn judge(&self, stream: &[u8], at: usize) -> Option<Answer<Frame>> {
         Some(reading::judge(stream, at))
+    }
+
+    fn body_check(&self, kind: u16, subtype: u16, stored: u32, body: &[u8]) -> Option<u8> {
+        Some(reading::body_check(kind, subtype, stored, body))
     }
 
     fn peer_read(&self, body: &[u8], slots: &mut [Peer]) -> Option<Answer<PeerTable>> {

@@ -51,6 +51,7 @@ pub fn settings(question: &Question) -> String {
         | Question::Frame { at, .. }
         | Question::Judge { at, .. }
         | Question::Candidate { at, .. } => format!("at {at}"),
+        Question::BodyCheck { kind, subtype, stored, .. } => format!("type {kind}, subtype {subtype}, stored {stored}"),
         Question::RibRead { subtype, .. } => format!("subtype {subtype}"),
         Question::RibEntry { subtype, timestamp, index, .. } => {
             format!("subtype {subtype}, timestamp {timestamp}, entry {index}")

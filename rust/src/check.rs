@@ -7,7 +7,7 @@ use core::fmt;
 ///
 /// # Errors
 ///
-/// [`Refusal::NotCarried`], [`Refusal::OtherSubtype`], [`Refusal::BodyNotMet`].
+/// [`Refusal::UnknownType`], [`Refusal::NotCarried`], [`Refusal::OtherSubtype`], [`Refusal::BodyNotMet`].
 ///
 /// ```
 /// use mrt::{Refusal, StoredLength, check_body};
@@ -15,6 +15,7 @@ use core::fmt;
 /// assert_eq!(check_body(&[0; 8], 13, 1, StoredLength(8)), Ok(()));
 /// assert_eq!(check_body(&[0; 7], 13, 1, StoredLength(7)), Err(Refusal::BodyNotMet));
 /// assert_eq!(check_body(&[0; 8], 12, 1, StoredLength(8)), Err(Refusal::NotCarried));
+/// assert_eq!(check_body(&[0; 8], 14, 1, StoredLength(8)), Err(Refusal::UnknownType));
 /// ```
 pub fn check_body(body: &[u8], kind: u16, subtype: u16, stored: StoredLength) -> Result<(), Refusal> {
     boundary::check_body(body, kind, subtype, stored.0)

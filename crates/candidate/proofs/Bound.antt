@@ -7,6 +7,7 @@ use native.Mathlib.Omega.{arith}
 use lib.ListN.{length}
 use lib.Dec.{eqb}
 use borrow.Author.Tests.{eqb-true}
+use Rattle.header.specs.Kind.{known}
 use Rattle.checks.specs.Legacy.{legacy}
 use Rattle.checks.specs.Bgp4mp.{bgp4mp}
 use Rattle.checks.proofs.Largest.{bgp4mp-most, legacy-most}
@@ -17,7 +18,7 @@ use Rattle.candidate.specs.Candidate.{family}
 -- candidate is held to never decides.
 pub bound-never-decides : (k u n : ℕ) (b : List ℕ) → length b ≡ n → (family k ≡ 0 → ⊥) → check k u n b ≡ 0 → n ≤ 65579
 unfolding check family
-bound-never-decides k u n b l = by-tests (eqb k 5) (eqb k 13) (eqb k 16 || eqb k 17) refl refl
+bound-never-decides k u n b l = by-tests (known k) (eqb k 5) (eqb k 13) (eqb k 16 || eqb k 17) refl refl
   where
     -- type 13 is of no family
     apart : eqb k 13 ≡ true → (eqb k 16 || eqb k 17) ≡ true → ⊥
@@ -26,9 +27,10 @@ bound-never-decides k u n b l = by-tests (eqb k 5) (eqb k 13) (eqb k 16 || eqb k
         let z : _≡_ {A = ℕ} 0 1 = cc in
         omega arith
 
-    by-tests : (x y z : Bool) → eqb k 13 ≡ y → (eqb k 16 || eqb k 17) ≡ z → (_≡_ {A = ℕ} (cond x 5 (cond z 16 0)) 0 → ⊥)
-        → cond x (legacy u n) (cond y (tableDump u b) (cond z (bgp4mp u b) 5)) ≡ 0 → n ≤ 65579
-    by-tests true y z q r f c = let m = legacy-most u n c in omega arith
-    by-tests false y false q r f c = absurd (f refl)
-    by-tests false true true q r f c = absurd (apart q r)
-    by-tests false false true q r f c = let m = bgp4mp-most u b c in omega arith
+    by-tests : (v x y z : Bool) → eqb k 13 ≡ y → (eqb k 16 || eqb k 17) ≡ z → (_≡_ {A = ℕ} (cond x 5 (cond z 16 0)) 0 → ⊥)
+        → cond v (cond x (legacy u n) (cond y (tableDump u b) (cond z (bgp4mp u b) 5))) 2 ≡ 0 → n ≤ 65579
+    by-tests false x y z q r f c = absurd (omega arith)
+    by-tests true true y z q r f c = let m = legacy-most u n c in omega arith
+    by-tests true false y false q r f c = absurd (f refl)
+    by-tests true false true true q r f c = absurd (apart q r)
+    by-tests true false false true q r f c = let m = bgp4mp-most u b c in omega arith

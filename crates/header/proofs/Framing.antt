@@ -15,10 +15,20 @@ use Rattle.header.specs.Read.{Heading, refused, accepted, header, header
 use Rattle.header.specs.Frame.{Framing, unframed, framed, frame, frameOf, frameAt}
 use Rattle.header.proofs.KnownTypes.{size-timed, size-plain}
 
--- a header that is read is there whole; only refusal 1 is for want of octets
+-- a header that is read is there whole and its type is known; only refusal 1 is for want of octets
 pub record HeaderOk (b : Bool) (m : ℕ) (h : Heading) : Type 0 where
   pub whole : h .number ≡ 0 → size (h .kind) ≤ m
+  pub known-type : h .number ≡ 0 → known (h .kind) ≡ true
+  pub most : h .number ≤ 3
   pub all-there : (h .number ≡ 1 → ⊥) → b ≡ false
+
+module _ {b : Bool} {m : ℕ} where
+  header-refused : (n : ℕ) → 1 ≤ n → n ≤ 3 → ((n ≡ 1 → ⊥) → b ≡ false) → HeaderOk b m (refused n)
+  header-refused n l h there =
+      record { whole = λ z. absurd (omega arith); known-type = λ z. absurd (omega arith); most = h; all-there = there }
+
+header-read : (m : ℕ) (h : Heading) → h .number ≡ 0 → size (h .kind) ≤ m → known (h .kind) ≡ true → HeaderOk false m h
+header-read m h z l k = record { whole = λ y. l; known-type = λ y. k; most = omega arith; all-there = λ y. refl }
 
 pub header-ok : Meets HeaderOk false 0 header
 unfolding header
@@ -35,37 +45,57 @@ header-ok = (
               meets-cond HeaderOk (known k) false 12 _ _
               (λ e. meets-cond HeaderOk (timed k) false 12 _ _
               (λ i. meets-cond HeaderOk (ltb w 4) false 12 _ _
-              (λ l. record { whole = λ z. absurd (omega arith); all-there = λ z. refl })
+              (λ l. header-refused 3 (omega arith) (omega arith) (λ z. refl))
               (λ l. (
-                (omega arith, λ us. record { whole = λ z. let y = size-timed k i in omega arith; all-there = λ z. refl }),
-                λ n d. record { whole = λ z. absurd (omega arith); all-there = λ z. absurd (z refl) },
+                (omega arith, λ us. header-read 16 _ refl (let y = size-timed k i in omega arith) e),
+                λ n d. header-refused 1 (omega arith) (omega arith) (λ z. absurd (z refl)),
               )))
-              (λ i. record { whole = λ z. let y = size-plain k i in omega arith; all-there = λ z. refl }))
-              (λ e. record { whole = λ z. absurd (omega arith); all-there = λ z. refl }),
+              (λ i. header-read 12 _ refl (let y = size-plain k i in omega arith) e))
+              (λ e. header-refused 2 (omega arith) (omega arith) (λ z. refl)),
         ),
       ),
     ),
   ),
-  λ n d. record { whole = λ z. absurd (omega arith); all-there = λ z. absurd (z refl) },
+  λ n d. header-refused 1 (omega arith) (omega arith) (λ z. absurd (z refl)),
 )
 
--- a record that is framed at an offset lies there whole; only refusals 1 and 4 are for want of octets
+-- a record that is framed at an offset lies there whole and its type is known; only refusals 1 and 4 are for want of octets
 pub record FrameOk (at : ℕ) (b : Bool) (m : ℕ) (f : Framing) : Type 0 where
+  pub known-type : f .head .number ≡ 0 → known (f .head .kind) ≡ true
+  pub most : f .head .number ≤ 4
   pub body : f .head .number ≡ 0 → f .body ≡ at + size (f .head .kind)
   pub end : f .head .number ≡ 0 → f .end ≡ at + (size (f .head .kind) + f .head .stored)
   pub room : f .head .number ≡ 0 → size (f .head .kind) + f .head .stored ≤ m
   pub all-there : (f .head .number ≡ 1 → ⊥) → (f .head .number ≡ 4 → ⊥) → b ≡ false
 
+frame-none : (at : ℕ) (b : Bool) (m n : ℕ) → 1 ≤ n → n ≤ 4 → ((n ≡ 1 → ⊥) → (n ≡ 4 → ⊥) → b ≡ false) → FrameOk at b m (unframed n)
+frame-none at b m n l h there =
+    record {
+      known-type = λ z. absurd (omega arith);
+      most = h;
+      body = λ z. absurd (omega arith);
+      end = λ z. absurd (omega arith);
+      room = λ z. absurd (omega arith);
+      all-there = there;
+    }
+
 framed-ok : (at : ℕ) (b : Bool) (m : ℕ) (h : Heading) → HeaderOk b m h → Meets (FrameOk at) b m (framed at h)
 unfolding framed
 framed-ok at b m h o =
+    let u = o .most in
     meets-cond (FrameOk at) (eqb (h .number) 0) b m _ _
-    (λ e. let z = eqb-true (h .number) 0 e in (
-      record { body = λ y. refl; end = λ y. refl; room = λ y. omega arith; all-there = λ x y. o .all-there x },
-      λ n d. record { body = λ y. absurd (omega arith); end = λ y. absurd (omega arith); room = λ y. absurd (omega arith); all-there = λ x y. absurd (y refl) },
+    (λ e. (
+      record {
+        known-type = o .known-type;
+        most = omega arith;
+        body = λ y. refl;
+        end = λ y. refl;
+        room = λ y. omega arith;
+        all-there = λ x y. o .all-there x;
+      },
+      λ n d. frame-none at true n 4 (omega arith) (omega arith) (λ x y. absurd (y refl)),
     ))
-    (λ e. let z = eqb-false (h .number) 0 e in
-    record { body = λ y. absurd (z y); end = λ y. absurd (z y); room = λ y. absurd (z y); all-there = λ x y. o .all-there x })
+    (λ e. let z = eqb-false (h .number) 0 e in frame-none at b m (h .number) (omega arith) (omega arith) (λ x y. o .all-there x))
 
 pub frame-ok : (at : ℕ) → Meets (FrameOk at) false 0 (frame at)
 unfolding frame

@@ -2,9 +2,9 @@
 ghost use mathlib.Core.Path.{_≡_};
 ghost use Rattle.header.specs.Kind.{known, timed, size};
 
-// 0 to 13, and then the first two of each sixteen up to 49.
-pub(crate) fn is_known(kind: u16) -> bool
-    ensures { λ r. ⌜ r ≡ known kind ⌝ }
+// Whether a type is known: 0 to 13, and then the first two of each sixteen up to 49.
+pub fn is_known(kind: u16) -> bool
+    ensures answer { λ r. ⌜ r ≡ known kind ⌝ }
 {
     if kind < 14 {
         return true;

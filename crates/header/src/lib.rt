@@ -7,6 +7,7 @@ mod write;
 use answer::Refusal;
 pub use frame::frame_of;
 pub use frame::frame_record;
+pub use kind::is_known;
 pub use read::read_header;
 pub use write::write_header;
 

@@ -1,12 +1,14 @@
 // The body check by type.
+ghost use mathlib.Core.Bool.{cond};
 ghost use mathlib.Core.Path.{_≡_};
 ghost use Rattle.answer.specs.Refusal.{outcomeNumber};
+ghost use Rattle.header.specs.Kind.{known};
 ghost use Rattle.judge.specs.Body.{check, tableDump};
 use answer::Outcome;
 use answer::Refusal;
 use table::TableAnswer;
 
-// The body of a record of a known type, with its stored length.
+// The body of a record, by the record's type, subtype and stored length.
 pub fn check_body(body: &[u8], kind: u16, subtype: u16, stored: u32) -> Outcome
     ensures answer { λ r. ⌜ outcomeNumber r ≡ check kind subtype stored (now (body .entry)) ⌝ }
 {
@@ -14,8 +16,18 @@ pub fn check_body(body: &[u8], kind: u16, subtype: u16, stored: u32) -> Outcome
         5 => checks::check_legacy(subtype, stored),
         13 => check_table_dump(body, subtype),
         16 | 17 => checks::check_bgp4mp(body, subtype),
-        _ => Outcome::Refused(Refusal::NotCarried),
+        _ => refuse_type(kind),
     }
+}
+
+// A type other than 5, 13, 16 and 17.
+fn refuse_type(kind: u16) -> Outcome
+    ensures { λ r. ⌜ outcomeNumber r ≡ cond (known kind) 5 2 ⌝ }
+{
+    if header::is_known(kind) {
+        return Outcome::Refused(Refusal::NotCarried);
+    }
+    Outcome::Refused(Refusal::UnknownType)
 }
 
 // Type 13: a peer table that holds its peers, or a RIB with a readable head.

@@ -1,16 +1,18 @@
 //! The body checks (01, Body checks).
 
+use super::header::is_known;
 use super::octets::be16;
 use super::{peers, rib};
 
-/// Whether a body passes the check of its type and subtype: 0, or the refusal 5, 6 or 7.
+/// Whether a body passes the check of its type, subtype and stored length: 0, or the refusal 2, 5, 6 or 7.
 #[inline]
-pub fn body_check(kind: u16, subtype: u16, body: &[u8]) -> u8 {
+pub fn body_check(kind: u16, subtype: u16, stored: u32, body: &[u8]) -> u8 {
     let met = match kind {
-        5 => legacy(subtype, body.len()),
+        5 => legacy(subtype, stored as usize),
         13 => table_dump_v2(subtype, body),
         16 | 17 => bgp4mp(subtype, body),
-        _ => return 5,
+        _ if is_known(kind) => return 5,
+        _ => return 2,
     };
     match met {
         None => 6,

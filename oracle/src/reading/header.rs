@@ -6,7 +6,7 @@ use crate::answers::{Answer, Frame, Header};
 const COMMON: usize = 12;
 const WITH_MICROS: usize = 16;
 
-fn is_known(kind: u16) -> bool {
+pub fn is_known(kind: u16) -> bool {
     matches!(kind, 0..=13 | 16 | 17 | 32 | 33 | 48 | 49)
 }
 

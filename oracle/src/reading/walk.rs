@@ -41,7 +41,7 @@ fn judged(stream: &[u8], at: usize) -> Judged {
         Err(refusal) => return Judged::Unframed(refusal),
     };
     let body = &stream[frame.body..frame.end];
-    match check::body_check(frame.header.kind, frame.header.subtype, body) {
+    match check::body_check(frame.header.kind, frame.header.subtype, frame.header.stored, body) {
         0 => Judged::Passes(frame),
         refusal => Judged::Fails { refusal, end: frame.end },
     }
@@ -60,7 +60,7 @@ fn standing(stream: &[u8], at: usize) -> Option<Candidate> {
     }
     let frame = with_body(stream, at, header).ok()?;
     let body = &stream[frame.body..frame.end];
-    if check::body_check(header.kind, header.subtype, body) != 0 {
+    if check::body_check(header.kind, header.subtype, header.stored, body) != 0 {
         return None;
     }
     let family = if header.kind == LEGACY { LEGACY } else { BGP4MP };

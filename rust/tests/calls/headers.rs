@@ -113,6 +113,7 @@ fn both_sides_of_the_body_checks() {
     assert_eq!(check(&[0; 13], 5, 7), Err(Refusal::BodyNotMet));
     assert_eq!(check(&[], 16, 2), Err(Refusal::OtherSubtype));
     assert_eq!(check(&[], 0, 0), Err(Refusal::NotCarried));
+    assert_eq!(check(&[], 14, 0), Err(Refusal::UnknownType));
     // Of type 5 the stored length alone is looked at.
     assert_eq!(check_body(&[], 5, 7, StoredLength(12)), Ok(()));
 }

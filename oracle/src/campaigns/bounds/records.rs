@@ -6,6 +6,7 @@ use crate::question::Question;
 
 pub fn run(put: Put) {
     order(put);
+    bodies(put);
     legacy(put);
     for subtype in 0..=12 {
         state_changes(put, subtype);
@@ -37,6 +38,17 @@ fn order(put: Put) {
                     all_about(put, &record[..record.len() - 1]);
                 }
             }
+        }
+    }
+}
+
+/// A body by itself, with a stored length that is not its own: an unknown type comes before all else, and of type 5 that
+/// length alone decides.
+fn bodies(put: Put) {
+    for kind in (0..=18).chain([31, 32, 33, 34, 47, 48, 49, 50, 65_535]) {
+        for (subtype, stored) in [(0, 0), (1, 16), (7, 12), (7, u32::MAX), (99, 0)] {
+            put(&Question::BodyCheck { kind, subtype, stored, body: &[] });
+            put(&Question::BodyCheck { kind, subtype, stored, body: &[0; 8] });
         }
     }
 }

@@ -1,3 +1,4 @@
+use mathlib.Core.Logic.{⊎-elim}
 use mathlib.Core.Path.{_∙_}
 use native.Mathlib.Omega.{arith}
 use Rattle.judge.proofs.Bodies.{check-legacy, check-dump, check-message, check-rest}
@@ -23,15 +24,17 @@ returns-2 c = c .check-table-dump .ensures ∙ check-dump _ _ _ _ (c .before .ma
 returns-3 : tie.Need-returns-3
 returns-3 c = c .check-bgp4mp .ensures ∙ check-message _ _ _ _ (c .before .before .if1 .left) (c .before .if2 .taken)
 
+refuse-type-requires : tie.Need-refuse-type-requires
+refuse-type-requires c κs = search needs
+
 returns-4 : tie.Need-returns-4
 returns-4 c =
-    let rest = c .before .match .rest in
-    check-rest _ _ _ _ (rest .0 .1) (rest .1) (λ e. omega arith) (λ e. omega arith)
-
-returns-5 : tie.Need-returns-5
-returns-5 c =
     let rest = c .before .before .match .rest in
-    check-rest _ _ _ _ (rest .0 .1) (rest .1) (λ e. omega arith) (λ e. omega arith)
+    c .refuse-type .ensures
+    ∙ ⊎-elim
+    (λ w. check-rest _ _ _ _ (rest .0 .1) (rest .1) (λ e. omega arith) (λ e. omega arith))
+    (λ w. check-rest _ _ _ _ (rest .0 .1) (rest .1) (λ e. omega arith) (λ e. omega arith))
+    (c .before .if1 .came)
 
 pub check-body-spec : {M : Type 1} → statement M
 check-body-spec =
@@ -40,8 +43,8 @@ check-body-spec =
     check-legacy-requires
     check-table-dump-requires
     check-bgp4mp-requires
+    refuse-type-requires
     returns
     returns-2
     returns-3
-    returns-4
-    returns-5)
+    returns-4)
