@@ -1,5 +1,5 @@
 -- What a listing shows: the answers of a whole walk, all of them, up to the end of the stream.
-use Prim.Native.Nat.{ℕ, _+_, _≤_}
+use Prim.Native.Nat.{ℕ, _+_, _*_, _/_, _≤_}
 use mathlib.Core.Path.{_≡_}
 use mathlib.Core.List.{List, [], _∷_, _++_, append-nil, append-assoc}
 use native.Mathlib.Omega.{arith}
@@ -7,14 +7,14 @@ use lib.ListN.{length}
 use borrow.Author.Tests.{le-ltb}
 use Rattle.walk.specs.Step.{Answer, handed, gap, end, refused}
 use Rattle.walk.specs.Promises.{Promised, Covers, Sought}
+use Rattle.judge.specs.Record.{judgeAt}
 use Rattle.candidate.specs.Candidate.{candidateAt}
 use Rattle.recover.proofs.Theorems.{walk-promises}
 use Rattle.lines.specs.Listing.{fields, line, linesOf, walked, listing}
 
--- THEOREM. The answers that a listing shows have all that a whole walk promises: they cover the stream once and in order, each gap
--- is followed by the records that it reports, no two gaps touch, and each scan ends at the least offset.
-pub listing-promises : (s : List ℕ) → Promised candidateAt s 1048576 3 (walked s)
-listing-promises s = walk-promises s 1048576 3
+-- THEOREM. The answers that a listing shows have all that a whole walk promises.
+pub listing-promises : (s : List ℕ) → Promised judgeAt candidateAt s 1048576 3 (walked s)
+listing-promises s = walk-promises s 1048576 3 (2 * (length s / 12) + 2) (omega arith)
 
 -- none of the answers is a refusal, so that each has a line
 abbrev pub Shown : List Answer → Type 0
@@ -25,12 +25,12 @@ Shown (end a ∷ l) = Shown l
 Shown (refused n a w r ∷ l) = ⊥
 
 module _ (s : List ℕ) (h : length s ≤ 65536) where
-  sought-shown : (l : List Answer) → Sought candidateAt s 1048576 3 l → Shown l
+  sought-shown : (l : List Answer) → Sought judgeAt candidateAt s 1048576 3 l → Shown l
   sought-shown [] q = tt
   sought-shown (handed a f ∷ l) q = sought-shown l q
   sought-shown (gap a e r v c ∷ l) q = sought-shown l (q .1)
   sought-shown (end a ∷ l) q = sought-shown l q
-  sought-shown (refused n a w r ∷ l) q = let z : a + (1048576 + 6) ≤ length s = q .2 (omega arith) in omega arith
+  sought-shown (refused n a w r ∷ l) q = let z : a + (1048576 + 6) ≤ length s = q .1 .far (omega arith) in omega arith
 
   -- THEOREM. Within 65,536 octets the window is never exhausted: no answer is a refusal, and a listing leaves no answer out.
   pub listing-shows : Shown (walked s)

@@ -1,3 +1,2 @@
--- Cases: what the call is in each of its cases. Steps: its records are those of the walk.
+-- Cases: what the call is in each of its cases.
 pub mod Cases
-pub mod Steps

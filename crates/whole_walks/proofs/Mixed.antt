@@ -1,6 +1,6 @@
 -- What a whole walk promises, of `mrt_next` and `mrt_records` on one lent walk, in any mixture.
 use Prim.Native.Nat.{ℕ, zero, suc, _+_, _*_, _/_, _<_, _≤_}
-use mathlib.Core.Path.{_≡_, refl, sym, _∙_, ap}
+use mathlib.Core.Path.{_≡_, refl, sym, _∙_, ap, subst}
 use mathlib.Core.Bool.{Bool, true, false, cond}
 use mathlib.Core.List.{List, [], _∷_, _++_}
 use native.Mathlib.Omega.{arith}
@@ -27,8 +27,8 @@ use Rattle.lent.specs.declared.Handed.{Handed}
 use Rattle.lent.proofs.Walks.{walk-full, walk-served}
 use Rattle.mrt_walk.specs.Next.{walkIn, walkValues, answerOut, steppedOut, nextOut}
 use Rattle.mrt_records.specs.Records.{recordTurn, recordAt, recordsHanded, recordsOut}
-use Rattle.whole_walks.specs.Made.{Fresh, Made, one, many, Calls, answersOf, valuesOf, Shows, none, next, records}
-use Rattle.whole_walks.specs.Made.{full-next, full-records, answered}
+use Rattle.whole_walks.specs.Made.{Holds, Made, one, many, Calls, answersOf, valuesOf, Shows, none, next, records}
+use Rattle.whole_walks.specs.Made.{full-next, full-records, answered, Nexts}
 
 -- a truth value told by its mark
 mark-told : (b : Bool) → eqb (mark b) 1 ≡ b
@@ -50,29 +50,31 @@ unfolding after
 run-append f [] xs w r q = q
 run-append f (y ∷ ys) xs w r q = (r .0, run-append f ys xs (y .walk) (r .1) q)
 
+-- no value leaves the places as they were
+nothing-stored : (places : List ℕ) → places ≡ patch places 0 (valuesOf [])
+unfolding valuesOf patch
+nothing-stored places = refl
+
+-- what a call of `mrt_records` leaves and returns
+abbrev Out : Type 0
+Out = List ℕ × (List ℕ × Handed)
+
 module _ (s : List ℕ) (window k : ℕ) where
   abbrev go : Walk → Stepped
   go = call judgeAt candidateAt s window k
 
-  -- the places ws hold the walk w, which stands in the stream
-  record Holds (w : Walk) (ws : List ℕ) : Type 0 where
-    long : 2 ≤ length ws
-    place : getD ws 0 0 ≡ w .position
-    marked : getD ws 1 0 ≡ mark (w .finished)
-    within : w .position ≤ length s
-
-  module _ (w : Walk) (ws : List ℕ) (h : Holds w ws) where
+  module _ (w : Walk) (ws : List ℕ) (h : Holds (length s) w ws) where
     walk-in : walkIn ws ≡ w
-    walk-in = rw (h .place, h .marked, mark-told (w .finished))
+    walk-in = rw (h .position, h .marked, mark-told (w .finished))
 
     small : getD ws 1 0 ≤ 1
     small = let m = mark-small (w .finished) in let e = h .marked in omega arith
 
     inside : getD ws 0 0 ≤ length s
-    inside = let e = h .place in let l = h .within in omega arith
+    inside = let e = h .position in let l = h .within in omega arith
 
     -- a walk that is stored is held
-    stored : (v : Walk) → v .position ≤ length s → Holds v (patch ws 0 (walkValues v))
+    stored : (v : Walk) → v .position ≤ length s → Holds (length s) v (patch ws 0 (walkValues v))
     unfolding patch
     stored v l =
         let a = length-set ws 0 (v .position) in
@@ -80,7 +82,7 @@ module _ (s : List ℕ) (window k : ℕ) where
         let n = h .long in
         record {
           long = omega arith;
-          place =
+          position =
               getD-set-other (set ws 0 (v .position)) 1 0 (mark (v .finished)) 0 (λ z. omega arith)
               ∙ getD-set-same ws 0 (v .position) 0 (omega arith);
           marked = getD-set-same (set ws 0 (v .position)) 1 (mark (v .finished)) 0 (omega arith);
@@ -88,13 +90,13 @@ module _ (s : List ℕ) (window k : ℕ) where
         }
 
     -- so is one that goes on at p
-    kept : (p : ℕ) → w .finished ≡ false → p ≤ length s → Holds (at p) (set ws 0 p)
+    kept : (p : ℕ) → w .finished ≡ false → p ≤ length s → Holds (length s) (at p) (set ws 0 p)
     kept p f l =
         let a = length-set ws 0 p in
         let n = h .long in
         record {
           long = omega arith;
-          place = getD-set-same ws 0 p 0 (omega arith);
+          position = getD-set-same ws 0 p 0 (omega arith);
           marked = getD-set-other ws 0 1 p 0 (λ z. omega arith) ∙ h .marked ∙ ap mark f;
           within = l;
         }
@@ -120,7 +122,7 @@ module _ (s : List ℕ) (window k : ℕ) where
     records-served places l f =
         let e : eqb (getD ws 1 0) 1 ≡ false = ap (λ (n : ℕ). eqb n 1) (h .marked ∙ ap mark f) in
         sym (walk-served (length s) ws places _ _ _ (h .long) small inside l)
-        ∙ simp e (ap (λ (p : ℕ). recordsHanded ws places (rowsFrom (recordAt s) (length places / 10) p)) (h .place))
+        ∙ simp e (ap (λ (p : ℕ). recordsHanded ws places (rowsFrom (recordAt s) (length places / 10) p)) (h .position))
 
   -- rows of records from p on are steps of the walk
   record Rowed (p : ℕ) (r : Rows ℕ) : Type 0 where
@@ -160,7 +162,7 @@ module _ (s : List ℕ) (window k : ℕ) where
   Shown w l = (xs : List Stepped) × Run go w xs × Shows l xs
 
   -- what a run of calls shows, by its first call
-  module _ (w : Walk) (ws : List ℕ) (h : Holds w ws) (l : List Made) (rest : (v : Walk) (vs : List ℕ) → Holds v vs → Calls s window k vs l → Shown v l) where
+  module _ (w : Walk) (ws : List ℕ) (h : Holds (length s) w ws) (l : List Made) (rest : (v : Walk) (vs : List ℕ) → Holds (length s) v vs → Calls s window k vs l → Shown v l) where
     by-next : (places walk left : List ℕ) (n : ℕ) → (walk, (left, n)) ≡ nextOut s ws window k places → Calls s window k walk l
         → Shown w (one places walk left n ∷ l)
     by-next places walk left n q c = by-room (leb 10 (length places)) refl
@@ -184,9 +186,6 @@ module _ (s : List ℕ) (window k : ℕ) where
         → Shown w (many places walk left d ∷ l)
     by-records places walk left d q c = by-room (leb 10 (length places)) refl (w .finished) refl
       where
-        abbrev Out : Type 0
-        Out = List ℕ × (List ℕ × Handed)
-
         by-room : (t : Bool) → leb 10 (length places) ≡ t → (f : Bool) → w .finished ≡ f → Shown w (many places walk left d ∷ l)
         by-room false t f g =
             let e = q ∙ records-full w ws h places (leb-false _ _ t) in
@@ -201,12 +200,9 @@ module _ (s : List ℕ) (window k : ℕ) where
             let j : left ≡ places = ap (λ (x : Out). x .1 .0) e in
             let m : d ≡ rowsHanded 0 = ap (λ (x : Out). x .1 .1) e in
             let y = rest w walk (rw i h) c in
-            (y .0, y .1, records [] tt (j ∙ nothing-stored) m (y .2))
-          where
-            nothing-stored : places ≡ patch places 0 (valuesOf [])
-            unfolding valuesOf patch
-            nothing-stored = refl
+            (y .0, y .1, records [] tt (j ∙ nothing-stored places) m (y .2))
         by-room true t false g =
+            let r : Rows ℕ = rowsFrom (recordAt s) (length places / 10) (w .position) in
             let e = q ∙ records-served w ws h places (leb-true _ _ t) g in
             let i : walk ≡ set ws 0 (r .after) = ap (λ (x : Out). x .0) e in
             let j : left ≡ patch places 0 (r .values) = ap (λ (x : Out). x .1 .0) e in
@@ -214,20 +210,14 @@ module _ (s : List ℕ) (window k : ℕ) where
             let here : w ≡ at (w .position) = ap (λ (b : Bool). record { position = w .position; finished = b }) g in
             let z = rowed (length places / 10) (w .position) (h .within) in
             let y = rest (at (r .after)) walk (rw i (kept w ws h (r .after) g (z .within))) c in
-            let u : Run go w (z .steps ++ y .0) =
-            rw here (run-append go (z .steps) (y .0) (at (w .position)) (z .runs) (rw (z .ends) (y .1))) in
+            let joined = run-append go (z .steps) (y .0) (at (w .position)) (z .runs) (rw (z .ends) (y .1)) in
+            let u : Run go w (z .steps ++ y .0) = subst (λ (v : Walk). Run go v (z .steps ++ y .0)) (sym here) joined in
             (z .steps ++ y .0, u, records (z .steps) (z .all) (j ∙ ap (patch places 0) (z .values)) (m ∙ ap rowsHanded (z .count)) (y .2))
-          where
-            abbrev r : Rows ℕ
-            r = rowsFrom (recordAt s) (length places / 10) (w .position)
 
-  shown : (l : List Made) (w : Walk) (ws : List ℕ) → Holds w ws → Calls s window k ws l → Shown w l
+  shown : (l : List Made) (w : Walk) (ws : List ℕ) → Holds (length s) w ws → Calls s window k ws l → Shown w l
   shown [] w ws h c = ([], tt, none)
   shown (one places walk left n ∷ l) w ws h c = by-next w ws h l (shown l) places walk left n (c .0) (c .1)
   shown (many places walk left d ∷ l) w ws h c = by-records w ws h l (shown l) places walk left d (c .0) (c .1)
-
-  fresh-held : (ws : List ℕ) → Fresh ws → Holds freshWalk ws
-  fresh-held ws f = record { long = f .long; place = f .position; marked = f .mark; within = omega arith }
 
   -- each call of `mrt_next` with room for an answer shows one
   answered-shown : (l : List Made) (xs : List Stepped) → Shows l xs → answered l ≤ length xs
@@ -246,15 +236,27 @@ module _ (s : List ℕ) (window k : ℕ) where
   answered-shown (many places walk left d ∷ l) xs (full-records a h) = answered-shown l xs h
 
   -- THEOREM. Calls of `mrt_next` and `mrt_records` on one lent walk, in any mixture and with any places, show the steps of one run of
-  -- the walk.
-  pub mixed-runs : (ws : List ℕ) (l : List Made) → Fresh ws → Calls s window k ws l → (xs : List Stepped) × Run go freshWalk xs × Shows l xs
-  mixed-runs ws l f c = shown l freshWalk ws (fresh-held ws f) c
+  -- the walk: the records that `mrt_records` hands out are those of as many steps.
+  pub mixed-runs : (w : Walk) (ws : List ℕ) (l : List Made) → Holds (length s) w ws → Calls s window k ws l
+      → (xs : List Stepped) × Run go w xs × Shows l xs
+  mixed-runs w ws l h c = shown l w ws h c
 
-  -- THEOREM. Where 2 * (n / 12) + 2 of them or more are calls of `mrt_next` with ten places or more, what they show promises all that
-  -- a whole walk promises.
-  pub mixed-promises : (ws : List ℕ) (l : List Made) → Fresh ws → Calls s window k ws l → 2 * (length s / 12) + 2 ≤ answered l
-      → (xs : List Stepped) × Shows l xs × Promised judgeAt candidateAt s window k (heard xs)
-  mixed-promises ws l f c b =
-      let y = mixed-runs ws l f c in
+  -- THEOREM. Where the walk was fresh, and 2 * (n / 12) + 2 of them or more are calls of `mrt_next` with ten places or more, what they
+  -- show promises all that a whole walk promises.
+  pub mixed-promises : (ws : List ℕ) (l : List Made) → Holds (length s) freshWalk ws → Calls s window k ws l
+      → 2 * (length s / 12) + 2 ≤ answered l → (xs : List Stepped) × Shows l xs × Promised judgeAt candidateAt s window k (heard xs)
+  mixed-promises ws l h c b =
+      let y = mixed-runs freshWalk ws l h c in
       let a = answered-shown l (y .0) (y .2) in
       (y .0, y .2, calls-promise s window k (y .0) (omega arith) (y .1))
+
+  nexts-answered : (l : List Made) → Nexts l → answered l ≡ length l
+  unfolding answered
+  nexts-answered [] n = refl
+  nexts-answered (one places walk left m ∷ l) n = simp (le-leb 10 (length places) (n .0), nexts-answered l (n .1))
+  nexts-answered (many places walk left d ∷ l) n = absurd n
+
+  -- THEOREM. So does any run of `mrt_next` on a fresh walk, of 2 * (n / 12) + 2 calls or more with ten places or more each.
+  pub nexts-promise : (ws : List ℕ) (l : List Made) → Holds (length s) freshWalk ws → Calls s window k ws l → Nexts l
+      → 2 * (length s / 12) + 2 ≤ length l → (xs : List Stepped) × Shows l xs × Promised judgeAt candidateAt s window k (heard xs)
+  nexts-promise ws l h c n b = mixed-promises ws l h c (rw (nexts-answered l n) b)

@@ -9,16 +9,19 @@ use lib.Dec.{leb}
 use Rattle.octets.specs.Octets.{patch}
 use Rattle.walk.specs.Step.{Answer, Stepped}
 use Rattle.walk.specs.Promises.{Records}
+use Rattle.walk.specs.declared.Walk.{Walk}
+use Rattle.lent.specs.Export.{mark}
 use Rattle.lent.specs.Rows.{rowsHanded, noneHanded}
 use Rattle.lent.specs.declared.Handed.{Handed}
 use Rattle.mrt_walk.specs.Next.{answerValues, answerOut, nextOut}
 use Rattle.mrt_records.specs.Records.{recordsOut}
 
--- the places of a fresh walk
-pub record Fresh (ws : List ℕ) : Type 0 where
+-- the places ws hold the walk w, which stands within n octets
+pub record Holds (n : ℕ) (w : Walk) (ws : List ℕ) : Type 0 where
   pub long : 2 ≤ length ws
-  pub position : getD ws 0 0 ≡ 0
-  pub mark : getD ws 1 0 ≡ 0
+  pub position : getD ws 0 0 ≡ w .position
+  pub marked : getD ws 1 0 ≡ mark (w .finished)
+  pub within : w .position ≤ n
 
 -- a call that was made: the places lent for its values, the walk's places after it, the values' places after it, what it returned
 -- one: of `mrt_next`
@@ -63,3 +66,9 @@ unfoldable pub answered : List Made → ℕ
 answered [] = 0
 answered (one places walk left n ∷ l) = cond (leb 10 (length places)) (suc (answered l)) (answered l)
 answered (many places walk left h ∷ l) = answered l
+
+-- every call is of `mrt_next`, with ten places or more
+abbrev pub Nexts : List Made → Type 0
+Nexts [] = Unit
+Nexts (one places walk left n ∷ l) = (10 ≤ length places) × Nexts l
+Nexts (many places walk left h ∷ l) = ⊥
