@@ -37,8 +37,7 @@ fn take_up(s: &[u8], at: usize, header: CommonHeader, wire: WireLength) -> Candi
     else {
         return CandidateAnswer::Fails;
     };
-    let length = h.length;
-    match judge::check_body(&s[body..end], h.kind, h.subtype, length.0) {
+    match judge::check_body(&s[body..end], h.kind, h.subtype, h.length) {
         Outcome::Refused(_) => CandidateAnswer::Fails,
         Outcome::Accepted => CandidateAnswer::Stands {
             family: family_of(h.kind),
@@ -66,7 +65,7 @@ fn is_plausible(h: CommonHeader) -> bool
     if kind != 5 {
         return checks::is_carried(h.subtype);
     }
-    match checks::check_legacy(h.subtype, length.0) {
+    match checks::check_legacy(h.subtype, length) {
         Outcome::Accepted => true,
         Outcome::Refused(_) => false,
     }

@@ -5,19 +5,20 @@ ghost use Rattle.checks.specs.Legacy.{legacyBounds, legacy};
 use crate::Bounds;
 use answer::Outcome;
 use answer::Refusal;
+use header::StoredLength;
 
 // The octets of the body are not looked at.
-pub fn check_legacy(subtype: u16, stored: u32) -> Outcome
-    ensures answer { λ r. ⌜ outcomeNumber r ≡ legacy subtype stored ⌝ }
+pub fn check_legacy(subtype: u16, stored: StoredLength) -> Outcome
+    ensures answer { λ r. ⌜ outcomeNumber r ≡ legacy subtype (stored .0) ⌝ }
 {
     let b = legacy_bounds(subtype);
     if b.high < b.low {
         return Outcome::Refused(Refusal::OtherSubtype);
     }
-    if stored < b.low {
+    if stored.0 < b.low {
         return Outcome::Refused(Refusal::BodyNotMet);
     }
-    if b.high < stored {
+    if b.high < stored.0 {
         return Outcome::Refused(Refusal::BodyNotMet);
     }
     Outcome::Accepted

@@ -31,41 +31,48 @@ fn read_front(s: &[u8]) -> HeaderAnswer
     let timestamp = octets::be32(s, 0);
     let kind = octets::be16(s, 4);
     let subtype = octets::be16(s, 6);
-    let wire = octets::be32(s, 8);
+    let wire = WireLength(octets::be32(s, 8));
     if !is_known(kind) {
         return HeaderAnswer::Refused(Refusal::UnknownType);
     }
     if !is_timed(kind) {
-        return read(timestamp, kind, subtype, wire, wire, 0);
+        return read(timestamp, kind, subtype, wire, StoredLength(wire.0), 0);
     }
-    if wire < 4 {
+    if wire.0 < 4 {
         return HeaderAnswer::Refused(Refusal::ShortLength);
     }
     if n < 16 {
         return HeaderAnswer::Refused(Refusal::TruncatedHeader);
     }
     let micros = octets::be32(s, 12);
-    read(timestamp, kind, subtype, wire, wire - 4, micros)
+    read(
+        timestamp,
+        kind,
+        subtype,
+        wire,
+        StoredLength(wire.0 - 4),
+        micros,
+    )
 }
 
 fn read(
     timestamp: u32,
     kind: u16,
     subtype: u16,
-    wire: u32,
-    stored: u32,
+    wire: WireLength,
+    stored: StoredLength,
     micros: u32,
 ) -> HeaderAnswer
-    ensures { λ r. ⌜ r ≡ HeaderAnswer.Read (record { timestamp = timestamp; kind = kind; subtype = subtype; length = record { 0 = stored }; micros = micros }) (record { 0 = wire }) ⌝ }
+    ensures { λ r. ⌜ r ≡ HeaderAnswer.Read (record { timestamp = timestamp; kind = kind; subtype = subtype; length = stored; micros = micros }) wire ⌝ }
 {
     HeaderAnswer::Read {
         header: CommonHeader {
             timestamp,
             kind,
             subtype,
-            length: StoredLength(stored),
+            length: stored,
             micros,
         },
-        wire: WireLength(wire),
+        wire,
     }
 }

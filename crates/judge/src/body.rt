@@ -6,11 +6,12 @@ ghost use Rattle.header.specs.Kind.{known};
 ghost use Rattle.judge.specs.Body.{check, tableDump};
 use answer::Outcome;
 use answer::Refusal;
+use header::StoredLength;
 use table::TableAnswer;
 
 // The body of a record, by the record's type, subtype and stored length.
-pub fn check_body(body: &[u8], kind: u16, subtype: u16, stored: u32) -> Outcome
-    ensures answer { λ r. ⌜ outcomeNumber r ≡ check kind subtype stored (now (body .entry)) ⌝ }
+pub fn check_body(body: &[u8], kind: u16, subtype: u16, stored: StoredLength) -> Outcome
+    ensures answer { λ r. ⌜ outcomeNumber r ≡ check kind subtype (stored .0) (now (body .entry)) ⌝ }
 {
     match kind {
         5 => checks::check_legacy(subtype, stored),

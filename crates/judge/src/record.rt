@@ -49,8 +49,7 @@ pub fn judge_at(s: &[u8], at: usize) -> Verdict
             body,
             end,
         } => {
-            let length = header.length;
-            match check_body(&s[body..end], header.kind, header.subtype, length.0) {
+            match check_body(&s[body..end], header.kind, header.subtype, header.length) {
                 Outcome::Refused(refusal) => Verdict::Off { refusal, end },
                 Outcome::Accepted => Verdict::Fit {
                     header,

@@ -7,6 +7,7 @@ ghost use Rattle.judge.specs.Record.{judgementAt};
 ghost use Rattle.mrt_judge.specs.Judged.{judgedOut, candidateOut};
 use answer::Outcome;
 use candidate::CandidateAnswer;
+use header::StoredLength;
 use judge::JudgeAnswer;
 
 // The record at an offset of a stream, judged.
@@ -55,7 +56,7 @@ pub extern "C" fn mrt_candidate(s: &[u8], at: usize, out: &mut [u64]) -> u32
 pub extern "C" fn mrt_check_body(body: &[u8], kind: u16, subtype: u16, stored: u32) -> u32
     ensures answer { λ r. ⌜ r ≡ check kind subtype stored (now (body .entry)) ⌝ }
 {
-    match judge::check_body(body, kind, subtype, stored) {
+    match judge::check_body(body, kind, subtype, StoredLength(stored)) {
         Outcome::Accepted => 0,
         Outcome::Refused(r) => lent::refusal(r),
     }

@@ -87,7 +87,7 @@ pub(crate) fn body(a: &[u8], x: &[u8], out: &mut [u8]) -> usize {
         a,
         octets::be16(x, 6),
         octets::be16(x, 14),
-        octets::be32(x, 20),
+        StoredLength(octets::be32(x, 20)),
     ) {
         Outcome::Accepted => 0,
         Outcome::Refused(r) => refused(out, 0, r),

@@ -37,13 +37,13 @@ returns c =
     (sym (ap framing (c .enum-told .given .1)) ∙ c .before .before .frame-of .ensures ∙ frame-read _ _ (c .before .before .before .before .pre)))
 
 sub-check-body : tie.Need-sub-check-body
-sub-check-body c = let p = place (c .before .before) in let x = p .body in let y = p .end in omega arith
+sub-check-body c = let p = place (c .before) in let x = p .body in let y = p .end in omega arith
 
 part-check-body-start : tie.Need-part-check-body-start
-part-check-body-start c = let p = place (c .before .before) in let x = p .body in let y = p .end in omega arith
+part-check-body-start c = let p = place (c .before) in let x = p .body in let y = p .end in omega arith
 
 part-check-body-end : tie.Need-part-check-body-end
-part-check-body-end c = let p = place (c .before .before) in let x = p .room in omega arith
+part-check-body-end c = let p = place (c .before) in let x = p .room in omega arith
 
 check-body-requires : tie.Need-check-body-requires
 check-body-requires c κs = search needs
@@ -63,13 +63,13 @@ evidence-of-requires c κs = search needs
 returns-2 : tie.Need-returns-2
 returns-2 c =
     standing-off
-    (judged-off _ _ _ (was-framed (c .before .before .before .before .before .before)) refl
+    (judged-off _ _ _ (was-framed (c .before .before .before .before .before)) refl
     (sym (ap outcomeNumber (c .enum-told2 .given .1)) ∙ c .before .before .check-body .ensures) (number-not-zero (c .enum-told2 .given .0 .0)))
 
 returns-3 : tie.Need-returns-3
 returns-3 c =
     standing-fit
-    (judged-fit _ _ _ (was-framed (c .before .before .before .before .before .before .before .before)) refl
+    (judged-fit _ _ _ (was-framed (c .before .before .before .before .before .before .before)) refl
     (sym (ap outcomeNumber (c .before .before .enum-told3 .given .1)) ∙ c .before .before .before .before .check-body .ensures) refl)
     (c .before .family-of .ensures) (c .evidence-of .ensures)
 

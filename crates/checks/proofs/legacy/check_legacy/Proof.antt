@@ -10,13 +10,21 @@ returns : tie.Need-returns
 returns c = legacy-other _ _ _ (c .before .before .legacy-bounds .ensures) (c .if1 .taken)
 
 returns-2 : tie.Need-returns-2
-returns-2 c = legacy-short _ _ _ (c .before .before .before .before .legacy-bounds .ensures) (c .before .before .if1 .left) (c .if2 .taken)
+returns-2 c =
+    let carried = c .before .before .before in
+    legacy-short _ _ _ (carried .before .before .legacy-bounds .ensures) (carried .if1 .left) (c .if2 .taken)
 
 returns-3 : tie.Need-returns-3
-returns-3 c = legacy-long _ _ _ (c .before .before .before .before .before .before .legacy-bounds .ensures) (c .before .before .before .before .if1 .left) (c .before .before .if2 .left) (c .if3 .taken)
+returns-3 c =
+    let long = c .before .before .before in
+    let carried = long .before .before .before in
+    legacy-long _ _ _ (carried .before .before .legacy-bounds .ensures) (carried .if1 .left) (long .if2 .left) (c .if3 .taken)
 
 returns-4 : tie.Need-returns-4
-returns-4 c = legacy-met _ _ _ (c .before .before .before .before .before .before .legacy-bounds .ensures) (c .before .before .before .before .if1 .left) (c .before .before .if2 .left) (c .if3 .left)
+returns-4 c =
+    let long = c .before .before .before in
+    let carried = long .before .before .before in
+    legacy-met _ _ _ (carried .before .before .legacy-bounds .ensures) (carried .if1 .left) (long .if2 .left) (c .if3 .left)
 
 pub check-legacy-spec : {M : Type 1} → statement M
 check-legacy-spec =

@@ -56,10 +56,16 @@ returns-3 : tie.Need-returns-3
 returns-3 c = ap values (c .read .ensures) ∙ header-plain (fields (c .before .before .before .before)) (the-known (c .before .before .before)) (sym (c .before .before .is-timed .ensures) ∙ not-true _ (c .before .if3 .taken))
 
 returns-4 : tie.Need-returns-4
-returns-4 c = header-tiny (fields (c .before .before .before .before)) (the-known (c .before .before .before)) (the-timed (c .before)) (c .if4 .taken)
+returns-4 c =
+    let timed-one = c .before .before in
+    let known-one = timed-one .before .before in
+    header-tiny (fields (known-one .before)) (the-known known-one) (the-timed timed-one) (c .if4 .taken)
 
 returns-5 : tie.Need-returns-5
-returns-5 c = header-cut (fields (c .before .before .before .before .before)) (the-known (c .before .before .before .before)) (the-timed (c .before .before)) (c .before .if4 .left) (c .if5 .taken)
+returns-5 c =
+    let timed-one = c .before .before .before in
+    let known-one = timed-one .before .before in
+    header-cut (fields (known-one .before)) (the-known known-one) (the-timed timed-one) (c .before .if4 .left) (c .if5 .taken)
 
 be32-requires-3 : tie.Need-be32-requires-3
 be32-requires-3 c κs = search needs
@@ -68,7 +74,18 @@ read-requires-2 : tie.Need-read-requires-2
 read-requires-2 c κs = search needs
 
 returns-6 : tie.Need-returns-6
-returns-6 c = ap values (c .read2 .ensures) ∙ header-timed (fields (c .before .before .before .before .before .before .before)) (the-known (c .before .before .before .before .before .before)) (the-timed (c .before .before .before .before)) (c .before .before .before .if4 .left) (c .before .before .if5 .left) (c .before .be323 .ensures)
+returns-6 c =
+    let room = c .before .before .before in
+    let timed-one = room .before .before .before in
+    let known-one = timed-one .before .before in
+    ap values (c .read2 .ensures)
+    ∙ header-timed
+    (fields (known-one .before))
+    (the-known known-one)
+    (the-timed timed-one)
+    (room .before .if4 .left)
+    (room .if5 .left)
+    (c .before .before .be323 .ensures)
 
 pub read-front-spec : {M : Type 1} → statement M
 read-front-spec =

@@ -34,13 +34,13 @@ enum-known-header : tie.Need-enum-known-header
 enum-known-header c = search needs
 
 sub-check-body : tie.Need-sub-check-body
-sub-check-body c = let p = place (c .before .before) in let x = p .body in let y = p .end in omega arith
+sub-check-body c = let p = place (c .before) in let x = p .body in let y = p .end in omega arith
 
 part-check-body-start : tie.Need-part-check-body-start
-part-check-body-start c = let p = place (c .before .before) in let x = p .body in let y = p .end in omega arith
+part-check-body-start c = let p = place (c .before) in let x = p .body in let y = p .end in omega arith
 
 part-check-body-end : tie.Need-part-check-body-end
-part-check-body-end c = let p = place (c .before .before) in let x = p .room in omega arith
+part-check-body-end c = let p = place (c .before) in let x = p .room in omega arith
 
 check-body-requires : tie.Need-check-body-requires
 check-body-requires c κs = search needs
@@ -55,10 +55,16 @@ returns-2 : tie.Need-returns-2
 returns-2 c = judged-cut _ _ _ (number-not-zero (c .before .r .given .0 .0)) (c .before .before .before .before .if1 .left) (sym (ap framing (c .before .r .given .1)) ∙ c .before .before .before .frame-record .ensures)
 
 returns-3 : tie.Need-returns-3
-returns-3 c = judged-off _ _ _ (was-framed (c .before .before .before .before .before .before .before)) refl (sym (ap outcomeNumber (c .before .refusal .given .1)) ∙ c .before .before .before .check-body .ensures) (number-not-zero (c .before .refusal .given .0 .0))
+returns-3 c =
+    let at-check-body = c .before .before .before in
+    let said = sym (ap outcomeNumber (c .before .refusal .given .1)) ∙ at-check-body .check-body .ensures in
+    judged-off _ _ _ (was-framed (at-check-body .before .before .before)) refl said (number-not-zero (c .before .refusal .given .0 .0))
 
 returns-4 : tie.Need-returns-4
-returns-4 c = judged-fit _ _ _ (was-framed (c .before .before .before .before .before .before)) refl (sym (ap outcomeNumber (c .enum-told .given .1)) ∙ c .before .before .check-body .ensures) refl
+returns-4 c =
+    let at-check-body = c .before .before in
+    let said = sym (ap outcomeNumber (c .enum-told .given .1)) ∙ at-check-body .check-body .ensures in
+    judged-fit _ _ _ (was-framed (at-check-body .before .before .before)) refl said refl
 
 pub judge-at-spec : {M : Type 1} → statement M
 judge-at-spec =
