@@ -1,13 +1,12 @@
 -- What is written is read back, and what is read is written back.
-use Prim.Native.Nat.{ℕ, _+_, _-_, _^_, _<_, _≤_}
-use mathlib.Core.Path.{_≡_, refl, sym, _∙_, ap}
+use Prim.Native.Nat.{ℕ, _+_, _-_, _<_, _≤_}
+use mathlib.Core.Path.{_≡_, refl, sym, _∙_}
 use mathlib.Core.Bool.{Bool, true, false}
 use mathlib.Core.List.{List, [], _++_, append-assoc}
 use native.Mathlib.Omega.{arith}
 use lib.ListN.{length, take, drop, length-append}
-use lib.Dec.{leb}
 use borrow.Author.Tests.{le-leb, le-ltb, ltb-false, eqb-true, not-false}
-use Rattle.answer.specs.Writing.{Writing, refuse, atFront}
+use Rattle.answer.specs.Writing.{atFront}
 use Rattle.octets.specs.Octets.{beAt, bytesOf, part, Octets}
 use Rattle.octets.proofs.Numbers.{be-of-field, bytes-of-be, be-lt, length-bytes}
 use Rattle.octets.proofs.Parts.{part-join}
@@ -20,7 +19,7 @@ use Rattle.header.specs.declared.CommonHeader.{CommonHeader}
 use Rattle.header.specs.declared.WireLength.{WireLength}
 use Rattle.header.proofs.KnownTypes.{size-timed, size-plain}
 use Rattle.header.proofs.Reading.{Fields, header-plain, header-timed, Shape, plain, extended, shape}
-use Rattle.header.proofs.Writing.{length-common, length-header, timed-octets, plain-octets}
+use Rattle.header.proofs.Writing.{length-common, length-header, timed-octets, plain-octets, write-accepted}
 
 -- a header whose octets stand at the front is read
 module _ (h : CommonHeader) (i : InWidth h) where
@@ -80,7 +79,7 @@ module _ (h : CommonHeader) (i : InWidth h) where
       let w : WireLength = record { 0 = h .length .0 } in
       rw (← plain-octets h e, wire-plain e, ← header-plain (common-fields w q (i .stored)) n e, fit-plain e f)
 
-  read-octets : (q : List ℕ) → known (h .kind) ≡ true → unfit h ≡ false → said ≡ over (headerOctets h ++ q) header
+  pub read-octets : (q : List ℕ) → known (h .kind) ≡ true → unfit h ≡ false → said ≡ over (headerOctets h ++ q) header
   read-octets q n f = by-test (timed (h .kind)) refl
     where
       by-test : (t : Bool) → timed (h .kind) ≡ t → said ≡ over (headerOctets h ++ q) header
@@ -90,15 +89,9 @@ module _ (h : CommonHeader) (i : InWidth h) where
   -- THEOREM. What the writer writes, the reader reads back, for every header that the writer accepts.
   pub read-of-write : (s : List ℕ) → writeHeader s h .number ≡ 0
       → over (writeHeader s h .output) header ≡ accepted (h .timestamp) (h .kind) (h .subtype) (wireOf h .0) (h .length .0) (h .micros)
-  unfolding writeHeader atFront
-  read-of-write s z = by-tests (known (h .kind)) (unfit h) (leb (length (headerOctets h)) (length s)) refl refl refl z
-    where
-      by-tests : (a b c : Bool) → known (h .kind) ≡ a → unfit h ≡ b → leb (length (headerOctets h)) (length s) ≡ c → writeHeader s h .number ≡ 0
-          → over (writeHeader s h .output) header ≡ said
-      by-tests false b c n f l z = absurd (let y : _≡_ {A = ℕ} 2 0 = rw n at z in omega arith)
-      by-tests true true c n f l z = absurd (let y : _≡_ {A = ℕ} 10 0 = rw (n, f) at z in omega arith)
-      by-tests true false false n f l z = absurd (let y : _≡_ {A = ℕ} 9 0 = rw (n, f, l) at z in omega arith)
-      by-tests true false true n f l z = rw (n, f, l) (sym (read-octets (drop (length (headerOctets h)) s) n f))
+  read-of-write s z =
+      let a = write-accepted h s z in
+      rw (a .all) (sym (read-octets (drop (length (headerOctets h)) s) (a .known-type) (a .fits)))
 
 -- the octets of the header that was read are the octets that stood there
 module _ (s : List ℕ) (o : Octets s) where

@@ -3,7 +3,9 @@ use Prim.Native.Nat.{ℕ, _+_, _<_, _≤_}
 use mathlib.Core.Path.{_≡_, refl, sym, _∙_, ap}
 use mathlib.Core.Bool.{Bool, true, false, cond}
 use mathlib.Core.List.{List, [], _++_, append-nil}
-use lib.ListN.{length, length-append}
+use lib.ListN.{length, drop, length-append}
+use lib.Dec.{leb}
+use native.Mathlib.Omega.{arith}
 use borrow.Author.Tests.{lt-ltb, le-ltb, eq-eqb, ne-eqb}
 use Rattle.answer.specs.Writing.{Writing, refuse, atFront}
 use Rattle.answer.proofs.Writers.{front-full, front-stored}
@@ -50,6 +52,24 @@ module _ (h : CommonHeader) where
   pub plain-octets : timed (h .kind) ≡ false → commonOctets h (record { 0 = h .length .0 }) ≡ headerOctets h
   unfolding headerOctets wireOf
   plain-octets i = simp (i, append-nil)
+
+  -- what an accepted call has shown, and leaves
+  pub record Accepted (s : List ℕ) : Type 0 where
+    pub known-type : known (h .kind) ≡ true
+    pub fits : unfit h ≡ false
+    pub all : writeHeader s h
+        ≡ record { number = 0; octets = length (headerOctets h); output = headerOctets h ++ drop (length (headerOctets h)) s }
+
+  pub write-accepted : (s : List ℕ) → writeHeader s h .number ≡ 0 → Accepted s
+  unfolding writeHeader atFront
+  write-accepted s z = by-tests (known (h .kind)) (unfit h) (leb (length (headerOctets h)) (length s)) refl refl refl z
+    where
+      by-tests : (a b c : Bool) → known (h .kind) ≡ a → unfit h ≡ b → leb (length (headerOctets h)) (length s) ≡ c
+          → writeHeader s h .number ≡ 0 → Accepted s
+      by-tests false b c n f l z = absurd (let y : _≡_ {A = ℕ} 2 0 = rw n at z in omega arith)
+      by-tests true true c n f l z = absurd (let y : _≡_ {A = ℕ} 10 0 = rw (n, f) at z in omega arith)
+      by-tests true false false n f l z = absurd (let y : _≡_ {A = ℕ} 9 0 = rw (n, f, l) at z in omega arith)
+      by-tests true false true n f l z = record { known-type = n; fits = f; all = rw (n, f, l) }
 
   module _ (s : List ℕ) where
     pub write-unknown : known (h .kind) ≡ false → refuse 2 s ≡ writeHeader s h

@@ -3,12 +3,12 @@
 use Prim.Native.Nat.{ℕ, zero, suc, _+_, _-_, _^_, _<_, _≤_}
 use mathlib.Core.Path.{_≡_, refl, sym, _∙_, ap}
 use mathlib.Core.List.{List, [], _++_, append-assoc}
-use mathlib.Core.Bool.{Bool, true, false, cond}
+use mathlib.Core.Bool.{Bool, true, false, cond, true≢false}
 use native.Mathlib.Nat.{zero-add, add-zero, suc-add}
 use native.Mathlib.Numerals.{add-one}
 use native.Mathlib.Omega.{arith}
 use borrow.Author.Tests.{le-ltb, le-leb, leb-true, ltb-false, eqb-true, eqb-false}
-use lib.ListN.{length, getD, take, drop, length-append, length-drop, length-take}
+use lib.ListN.{length, getD, take, drop, length-append, length-drop, length-take, take-append-drop}
 use lib.Seq.{take-append-seam, drop-append-add, drop-at, getD-drop, length-take-le}
 use lib.Dec.{leb, ltb, eqb}
 use Rattle.answer.specs.Writing.{Writing, atFront}
@@ -62,6 +62,11 @@ module _ (s : List ℕ) (slots : ℕ) where
       by-body : (t : Bool) → leb (lastEnd s) (length s) ≡ t → headFor s slots .number ≡ 0 → (lastEnd s ≤ length s) × (peerCount s ≤ slots)
       by-body true e = by-slots e (ltb slots (peerCount s)) refl
       by-body false e = simp (e, le-ltb slots 0 (let z : 0 ≤ slots = omega arith in z)) (λ z. absurd (omega arith))
+
+-- a body that was loaded passes its check
+pub load-checked : (s : List ℕ) (l : List Peer) → loadPeers s l .head .number ≡ 0 → checkPeers s .number ≡ 0
+unfolding loadPeers checkPeers
+load-checked s l z = simp (le-leb (lastEnd s) (length s) (was-accepted s (length l) z .0))
 
 -- ---- read, then written
 module _ (s : List ℕ) (l : List Peer) (o : Octets s) (ok : loadPeers s l .head .number ≡ 0) where
@@ -187,7 +192,7 @@ module _ (s : List ℕ) (l : List Peer) (o : Octets s) (ok : loadPeers s l .head
 
 -- ---- written, then read
 -- each peer's id and AS are numbers of four octets
-abbrev Fitting : List Peer → ℕ → Type 0
+abbrev pub Fitting : List Peer → ℕ → Type 0
 Fitting l n = (i : ℕ) → i < n → (getD l i nobody .id < 256 ^ 4) × (getD l i nobody .asn < 256 ^ 4)
 
 -- what follows the first n peers begins with the next
@@ -203,9 +208,6 @@ peers-at l n (suc k) r =
     let h = peers-at l n k (peerOctets (getD l (k + suc n) nobody) ++ r) in
     (h .0, rw suc-add (ap (drop (sizes l n)) (append-assoc (peersOctets l (k + suc n)) (peerOctets (getD l (k + suc n) nobody)) r) ∙ h .1))
 
-not-both : true ≡ false → ⊥
-not-both z = let q : _≡_ {A = ℕ} 1 0 = ap (λ (b : Bool). cond b 1 0) z in omega arith
-
 fit-at : (l : List Peer) (n i : ℕ) → anyUnfit l n ≡ false → i < n → unfit (getD l i nobody) ≡ false
 unfolding anyUnfit
 fit-at l zero i u h = absurd (omega arith)
@@ -217,7 +219,7 @@ fit-at l (suc n) i u h = by-rest (anyUnfit l n) refl (λ v m. fit-at l n i v m)
 
     by-rest : (t : Bool) → anyUnfit l n ≡ t → (anyUnfit l n ≡ false → i < n → unfit (getD l i nobody) ≡ false)
         → unfit (getD l i nobody) ≡ false
-    by-rest true e f = let z : true ≡ false = simp e at u in absurd (not-both z)
+    by-rest true e f = let z : true ≡ false = simp e at u in absurd (true≢false z)
     by-rest false e f = by-last e (eqb i n) refl (f e)
 
 module _ (collector : ℕ) (view : List ℕ) (l : List Peer) (count : ℕ) (r : List ℕ) (c-fits : collector < 256 ^ 4)
@@ -388,25 +390,42 @@ module _ (out : List ℕ) (collector : ℕ) (view : List ℕ) (l : List Peer) (c
       by-count true e = simp e (λ z. absurd (omega arith))
       by-count false e = by-name e (ltb 65535 (length view)) refl
 
-  -- what was written, read: the same head, the same view name, and the peers as they are stored
-  pub read-of-write : Done .number ≡ 0 → collector < 256 ^ 4 → Fitting l count → (m : List Peer) → count ≤ length m
-      → (loadPeers (Done .output) m .head ≡ record
-      { number = 0; collector = collector; name = 6; length = length view; count = count; first = 8 + length view; end = Done .octets })
-      × (part (Done .output) 6 (length view) ≡ view)
-      × ((i : ℕ) → i < count → getD (loadPeers (Done .output) m .slots) i nobody ≡ stored (getD l i nobody))
-  read-of-write z c fit m h =
+  -- how the octets s read: the same head, the same view name, and the peers as they are stored
+  pub record ReadsBack (s : List ℕ) (m : List Peer) : Type 0 where
+    pub head : loadPeers s m .head ≡ record
+        { number = 0; collector = collector; name = 6; length = length view; count = count; first = 8 + length view; end = Done .octets }
+    pub name : part s 6 (length view) ≡ view
+    pub peers : (i : ℕ) → i < count → getD (loadPeers s m .slots) i nobody ≡ stored (getD l i nobody)
+
+  pub right-of-write : Done .number ≡ 0 → (count ≤ length l) × (count ≤ 65535)
+  right-of-write z =
+      used-either (length l) count (λ x y. absurd (true≢false (sym x ∙ was-written z .0))) (λ x y p q. (p, q))
+
+  pub length-of-write : Done .number ≡ 0 → length (take (Done .octets) (Done .output)) ≡ Done .octets
+  length-of-write z = rw (was-written z .3, take-append-seam Body (drop (length Body) out))
+
+  -- what was written, read, whatever stands after it
+  pub read-of-body : Done .number ≡ 0 → collector < 256 ^ 4 → Fitting l count → (r : List ℕ) (m : List Peer) → count ≤ length m
+      → ReadsBack (take (Done .octets) (Done .output) ++ r) m
+  read-of-body z c fit r m h =
       let w = was-written z in
       let e : Done ≡ record { number = 0; octets = length Body; output = Body ++ drop (length Body) out } = w .3 in
-      let k : count ≤ 65535 = used-either (length l) count (λ x y. absurd (not-both (sym x ∙ w .0))) (λ x y p q. q) in
-      let r : List ℕ = drop (length Body) out in
+      let k = right-of-write z .1 in
       let b = read-back collector view l count r c (w .1) k (w .2) fit m h in
-      rw e (b .0, view-back collector view l count r c (w .1) k (w .2) fit, b .1)
+      let o : length Body ≡ Done .octets = sym (ap (λ (x : Writing). x .octets) e) in
+      rw (e, take-append-seam Body (drop (length Body) out))
+      (record { head = rw o at (b .0); name = view-back collector view l count r c (w .1) k (w .2) fit; peers = b .1 })
+
+  pub read-of-write : Done .number ≡ 0 → collector < 256 ^ 4 → Fitting l count → (m : List Peer) → count ≤ length m
+      → ReadsBack (Done .output) m
+  read-of-write z c fit m h =
+      rw (take-append-drop (Done .octets) (Done .output)) at (read-of-body z c fit (drop (Done .octets) (Done .output)) m h)
 
   -- THEOREM. Where the peers are as they are stored, what was written is read as the same peers.
   pub read-of-write-same : Done .number ≡ 0 → collector < 256 ^ 4 → Fitting l count → AsStored l count
       → (m : List Peer) → count ≤ length m
       → (i : ℕ) → i < count → getD (loadPeers (Done .output) m .slots) i nobody ≡ getD l i nobody
-  read-of-write-same z c fit kept m h i k = read-of-write z c fit m h .2 i k ∙ kept i k
+  read-of-write-same z c fit kept m h i k = read-of-write z c fit m h .peers i k ∙ kept i k
 
 -- THEOREM. Peers that the calls have put into slots, by whatever run of them, are as they are stored; so they come back the same.
 pub reached-as-stored : {l : List Peer} {n : ℕ} → Reached l n → AsStored l n

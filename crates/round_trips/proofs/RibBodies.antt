@@ -9,8 +9,8 @@ use native.Mathlib.Nat.{sub-zero}
 use native.Mathlib.Omega.{arith}
 use lib.ListN.{length, take, drop, length-drop, take-append-drop}
 use lib.Seq.{take-append-seam, length-take-le, drop-drop}
-use lib.Dec.{leb, ltb}
-use borrow.Author.Tests.{leb-true, ltb-false, le-ltb, le-leb, eq-eqb}
+use lib.Dec.{leb, ltb, eqb}
+use borrow.Author.Tests.{leb-true, ltb-false, le-ltb, le-leb, eq-eqb, eqb-true}
 use Rattle.answer.specs.Writing.{Writing, refuse, atFront}
 use Rattle.octets.specs.Octets.{beAt, part, Octets}
 use Rattle.rib_head.specs.Layout.{carried, mostBits, pathSize, prefixSize}
@@ -18,7 +18,7 @@ use Rattle.rib_head.specs.Prefix.{cleared}
 use Rattle.rib.specs.Rib.{prefixAt}
 use Rattle.rib_head.specs.Head.{bitsOf, countAt, declared, entriesAt, checkRib}
 use Rattle.rib_entries.specs.Entry.{attributesAt, entryEnd, entryHere, passed, readCount}
-use Rattle.rib.specs.Rib.{ribOf}
+use Rattle.rib.specs.Rib.{Reading, ribOf}
 use Rattle.rib_head.proofs.Prefixes.{length-cleared}
 use Rattle.rib_head.proofs.Heads.{met-carried, met-most}
 use Rattle.rib_entries.proofs.Steps.{count-le, entry-met}
@@ -154,23 +154,52 @@ module _ (t sequence bits : ℕ) (prefix : List ℕ) (w : Sound t (frontOf seque
             ∙ rw y (givens-built (pathSize t) gs (headOf h (length gs)) [] (k .kept) s (e ∙ sym (append-nil (headOf h (length gs) ++ r))));
       }
 
--- what is begun and then given the accepted entries gs reads back as begun, with the entries gs
-pub read-of-build : (s : List ℕ) (t sequence bits : ℕ) (prefix : List ℕ) (gs : List Given) → sequence < 4294967296 → Octets prefix
-    → AllTyped gs
-    → (w : Writing) → w ≡ adds t (beginRib s t sequence bits prefix) gs → w .number ≡ 0
-    → ReadsBack (take (w .octets) (w .output)) t sequence bits prefix gs
-unfolding state
-read-of-build s t sequence bits prefix gs q o y w e z =
-    let a : Begun s t sequence bits prefix =
-    begin-accepted s t sequence bits prefix (adds-from t gs (beginRib s t sequence bits prefix) (rw e at z)) in
-    let h : Front = frontOf sequence bits prefix in
-    let sound : Sound t h = sound-begun s t sequence bits prefix a in
-    let r : List ℕ = drop (7 + prefixSize bits) s in
-    let none : Fitting t [] = record { kept = tt; count = omega arith } in
-    let x : Run t h sound [] gs r = run t h sound gs [] r none y in
-    let u : w ≡ lengthOnly (pushes t (state t h [] r) gs) = rw (begun s t sequence bits prefix a) at e ∙ x .same in
-    let v : Ran t h sound gs (pushes t (state t h [] r) gs) = x .ran (rw u at z) in
-    rw (u, v .all, take-append-seam (body t h gs) (v .rest)) (reads-built t sequence bits prefix sound q o gs (v .fitting))
+-- what is begun and then given the accepted entries gs
+module _ (s : List ℕ) (t sequence bits : ℕ) (prefix : List ℕ) (gs : List Given) (y : AllTyped gs)
+    (w : Writing) (e : w ≡ adds t (beginRib s t sequence bits prefix) gs) (z : w .number ≡ 0) where
+  -- leaves the body with its head and all of them
+  record Left : Type 0 where
+    sound : Sound t (frontOf sequence bits prefix)
+    fitting : Fitting t gs
+    rest : List ℕ
+    all : w ≡ lengthOnly (state t (frontOf sequence bits prefix) gs rest)
+
+  left : Left
+  left =
+      let a : Begun s t sequence bits prefix =
+      begin-accepted s t sequence bits prefix (adds-from t gs (beginRib s t sequence bits prefix) (rw e at z)) in
+      let h : Front = frontOf sequence bits prefix in
+      let sound : Sound t h = sound-begun s t sequence bits prefix a in
+      let r : List ℕ = drop (7 + prefixSize bits) s in
+      let none : Fitting t [] = record { kept = tt; count = omega arith } in
+      let x : Run t h sound [] gs r = run t h sound gs [] r none y in
+      let u : w ≡ lengthOnly (pushes t (state t h [] r) gs) = rw (begun s t sequence bits prefix a) at e ∙ x .same in
+      let v : Ran t h sound gs (pushes t (state t h [] r) gs) = x .ran (rw u at z) in
+      record { sound = sound; fitting = v .fitting; rest = v .rest; all = u ∙ ap lengthOnly (v .all) }
+
+  pub length-of-build : length (take (w .octets) (w .output)) ≡ w .octets
+  unfolding state
+  length-of-build = rw (left .all, take-append-seam (body t (frontOf sequence bits prefix) gs) (left .rest))
+
+  -- reads back as begun, with the entries gs
+  pub read-of-build : sequence < 4294967296 → Octets prefix → ReadsBack (take (w .octets) (w .output)) t sequence bits prefix gs
+  unfolding state
+  read-of-build q o =
+      rw (left .all, take-append-seam (body t (frontOf sequence bits prefix) gs) (left .rest))
+      (reads-built t sequence bits prefix (left .sound) q o gs (left .fitting))
+
+-- a body that reads passes its check
+pub read-checked : {s : List ℕ} {t sequence bits : ℕ} {prefix : List ℕ} {gs : List Given} → ReadsBack s t sequence bits prefix gs
+    → checkRib s t ≡ 0
+unfolding ribOf
+read-checked {s} {t} b = by-test (eqb (checkRib s t) 0) refl
+  where
+    number-read : ribOf s t .number ≡ 0
+    number-read = ap (λ (r : Reading). r .number) (b .rib)
+
+    by-test : (q : Bool) → eqb (checkRib s t) 0 ≡ q → checkRib s t ≡ 0
+    by-test true e = eqb-true _ _ e
+    by-test false e = rw e at number-read
 
 -- a body with every declared entry and nothing after them is built again from what is read of it
 module _ (s out : List ℕ) (t : ℕ) (o : Octets s) (z : openOf s t .number ≡ 0) (b : length s ≤ length out) where

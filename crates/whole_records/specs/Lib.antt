@@ -1,0 +1,2 @@
+-- Stream: records as they are written, one after another, and what a walk over them answers.
+pub mod Stream
