@@ -39,9 +39,10 @@ fn place_new(slots: usize, count: usize) -> Place
     if slots == count {
         return no_place(Refusal::NoRoom, slots);
     }
+    let id = count;
     Place {
-        answer: AddAnswer::Added(count as u16),
-        at: count,
+        answer: AddAnswer::Added(id as u16),
+        at: id,
     }
 }
 

@@ -17,7 +17,8 @@ use candidate::CandidateAnswer;
 pub fn scan(s: &[u8], p: usize, window: usize, more: u8) -> Found
     ensures answer { λ r. ⌜ sighted r ≡ over (now (s .entry)) (scanRule candidateAt more (suc p) window) ⌝ }
 {
-    let last = reach(s.len(), p, window);
+    let n = s.len();
+    let last = reach(n, p, window);
     let mut d: usize = 0;
     'distance: loop {
         d = pass_over(s, p, d, last);

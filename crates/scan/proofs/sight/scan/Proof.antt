@@ -10,16 +10,16 @@ use Rattle.scan.proofs.sight.scan.Statement.{statement}
 use Rattle.scan.proofs.sight.scan.Tie as tie
 
 abbrev Inv-loop : tie.InvT-loop
-Inv-loop s p window more last d offset family₀ evidence₀ i₀ at₀ family evidence i at = (i ≤ more) × Stood candidateAt s more offset i family evidence at
+Inv-loop s p window more n last d offset family₀ evidence₀ i₀ at₀ family evidence i at = (i ≤ more) × Stood candidateAt s more offset i family evidence at
 
 abbrev μ-loop : tie.MeasureT-loop
-μ-loop s p window more last d offset family₀ evidence₀ i₀ at₀ family evidence i at = more - i
+μ-loop s p window more n last d offset family₀ evidence₀ i₀ at₀ family evidence i at = more - i
 
 abbrev Inv-distance : tie.InvT-distance
-Inv-distance s p window more last d₀ d = (d ≤ last) × (last ≡ min window (length s - p - 12)) × Left candidateAt s more p window d
+Inv-distance s p window more n last d₀ d = (d ≤ last) × (last ≡ min window (length s - p - 12)) × Left candidateAt s more p window d
 
 abbrev μ-distance : tie.MeasureT-distance
-μ-distance s p window more last d₀ d = last - d
+μ-distance s p window more n last d₀ d = last - d
 
 reach-requires : tie.Need-reach-requires Inv-loop μ-loop Inv-distance μ-distance
 reach-requires c κs = search needs
