@@ -6,7 +6,7 @@ use mathlib.Core.Bool.{Bool, true, false, cond}
 use native.Mathlib.Nat.{add-zero}
 use native.Mathlib.Numerals.{add-one}
 use native.Mathlib.Omega.{arith}
-use borrow.Author.Tests.{leb-false, eqb-true, eqb-false}
+use borrow.Author.Tests.{lt-leb, leb-false, eq-eqb, eqb-true, eqb-false}
 use lib.ListN.{length, getD, set, length-set}
 use lib.Seq.{getD-set-same, getD-set-other}
 use lib.Dec.{leb, eqb}
@@ -17,7 +17,7 @@ use Rattle.peer.proofs.SameAddress.{HasAddress, key-plainly, same-self, same-st
 use Rattle.peer_slots.specs.Used.{wrongCount}
 use Rattle.peer_slots.proofs.Counts.{right}
 use Rattle.peer_slots.proofs.AsStored.{AsStored}
-use Rattle.peers.specs.Find.{found, highest, lookUp, findPeer}
+use Rattle.peers.specs.Find.{found, lost, highest, lookUp, findPeer}
 use Rattle.peers.proofs.Highest.{look-up-highest, looked-right, highest-kept, find-own}
 use Rattle.peers_add.specs.Add.{Adding, notAdded, appendPeer, addPeer}
 
@@ -29,13 +29,13 @@ module _ (l : List Peer) (count : ℕ) (p : Peer) where
   -- what the call answers, and why
   data Case : Adding → Type 0 where
     known : (id : ℕ) → lookUp l count p ≡ found id → Case (record { number = 0; id = id; added = 0; slots = l })
-    new : wrongCount (length l) count ≡ false → count < 65535 → count < length l
+    new : lookUp l count p ≡ lost 8 → wrongCount (length l) count ≡ false → count < 65535 → count < length l
         → Case (record { number = 0; id = count; added = 1; slots = grown })
     not-taken : (n : ℕ) → (n ≡ 0 → ⊥) → Case (notAdded n l)
 
-  append-case : Case (appendPeer l count p)
+  append-case : lookUp l count p ≡ lost 8 → Case (appendPeer l count p)
   unfolding appendPeer
-  append-case = by-count (wrongCount (length l) count) refl (leb 65535 count) refl (leb (length l) count) refl
+  append-case unknown = by-count (wrongCount (length l) count) refl (leb 65535 count) refl (leb (length l) count) refl
     where
       by-count : (a : Bool) → wrongCount (length l) count ≡ a → (b : Bool) → leb 65535 count ≡ b → (c : Bool) → leb (length l) count ≡ c
           → Case (cond a (notAdded 8 l) (cond b (notAdded 10 l) (cond c (notAdded 9 l)
@@ -43,7 +43,7 @@ module _ (l : List Peer) (count : ℕ) (p : Peer) where
       by-count true w b u c v = not-taken 8 (λ z. omega arith)
       by-count false w true u c v = not-taken 10 (λ z. omega arith)
       by-count false w false u true v = not-taken 9 (λ z. omega arith)
-      by-count false w false u false v = new w (leb-false _ _ u) (leb-false _ _ v)
+      by-count false w false u false v = new unknown w (leb-false _ _ u) (leb-false _ _ v)
 
   case : Case (addPeer l count p)
   unfolding addPeer
@@ -52,7 +52,7 @@ module _ (l : List Peer) (count : ℕ) (p : Peer) where
       by-known : (t : Bool) → eqb (lookUp l count p .number) 0 ≡ t
           → Case (cond t (record { number = 0; id = lookUp l count p .id; added = 0; slots = l }) (appendPeer l count p))
       by-known true e = known (lookUp l count p .id) (look-up-highest l count p .zero-found (eqb-true _ _ e))
-      by-known false e = append-case
+      by-known false e = append-case (look-up-highest l count p .other-lost (eqb-false _ _ e))
 
   -- the first slots, and every other than the new one, keep their peers
   grown-kept : (j : ℕ) → (j ≡ count → ⊥) → getD grown j nobody ≡ getD l j nobody
@@ -76,14 +76,21 @@ module _ (l : List Peer) (count : ℕ) (p : Peer) where
           ← looked-right l count key w,
         )
 
+  -- of a peer that is new: no slot in use held its address, and now the slot at the count holds it as stored
+  pub record New (a : Adding) : Type 0 where
+    pub unknown : lookUp l count p ≡ lost 8
+    pub one-more : a .added ≡ 1
+    pub id-is : a .id ≡ count
+    pub slot-is : getD (a .slots) count nobody ≡ stored p
+
   -- what an accepted call has done
   pub record Done (a : Adding) : Type 0 where
     -- the peer is found under its id, by its record and by its own family and octets
     pub found-after : lookUp (a .slots) (count + a .added) p ≡ found (a .id)
     pub found-by-address : findPeer (a .slots) (count + a .added) (eqb (p .kind % 2) 1) (p .addr) ≡ found (a .id)
-    -- slots: only the one at the count may change, and only where the peer is new, which it then holds as stored
+    -- slots: only the one at the count may change, and only where the peer is new
     pub known-kept : a .added ≡ 0 → a .slots ≡ l
-    pub new-stored : (a .added ≡ 0 → ⊥) → (a .added ≡ 1) × (a .id ≡ count) × (getD (a .slots) (a .id) nobody ≡ stored p)
+    pub new-stored : (a .added ≡ 0 → ⊥) → New a
     pub others-kept : (j : ℕ) → (j ≡ count → ⊥) → getD (a .slots) j nobody ≡ getD l j nobody
     pub length-kept : length (a .slots) ≡ length l
     -- lookups of other addresses answer as before
@@ -101,7 +108,7 @@ module _ (l : List Peer) (count : ℕ) (p : Peer) where
   -- by what holds of every lookup after the call
   done : (a : Adding) → lookUp (a .slots) (count + a .added) p ≡ found (a .id)
       → (a .added ≡ 0 → a .slots ≡ l)
-      → ((a .added ≡ 0 → ⊥) → (a .added ≡ 1) × (a .id ≡ count) × (getD (a .slots) (a .id) nobody ≡ stored p))
+      → ((a .added ≡ 0 → ⊥) → New a)
       → ((j : ℕ) → (j ≡ count → ⊥) → getD (a .slots) j nobody ≡ getD l j nobody)
       → length (a .slots) ≡ length l
       → ((key : Peer) → sameAddress p key ≡ false → lookUp (a .slots) (count + a .added) key ≡ lookUp l count key)
@@ -124,8 +131,9 @@ module _ (l : List Peer) (count : ℕ) (p : Peer) where
       let k : count + 0 ≡ count = add-zero count in
       done a (ap (λ (n : ℕ). lookUp l n p) k ∙ e) (λ y. refl) (λ y. absurd (y refl)) (λ j n. refl) refl
       (λ key n. ap (λ (m : ℕ). lookUp l m key) k)
-  by-case a (new w few room) z =
-      done a (look-grown w few room p ∙ rw (same-self p)) (λ y. absurd (omega arith)) (λ y. (refl, refl, last-there w few room)) grown-kept
+  by-case a (new unknown w few room) z =
+      done a (look-grown w few room p ∙ rw (same-self p)) (λ y. absurd (omega arith))
+      (λ y. record { unknown = unknown; one-more = refl; id-is = refl; slot-is = last-there w few room }) grown-kept
       (length-set l count (stored p)) (λ key n. look-grown w few room key ∙ rw n)
   by-case a (not-taken n f) z = absurd (f z)
 
@@ -133,13 +141,27 @@ module _ (l : List Peer) (count : ℕ) (p : Peer) where
   pub add-keeps : addPeer l count p .number ≡ 0 → Done (addPeer l count p)
   add-keeps = by-case (addPeer l count p) case
 
+  -- THEOREM. Where fewer than 65,535 peers are in use and a slot is left, none is refused; a known one never is.
+  pub room-taken : count < 65535 → count < length l → addPeer l count p .number ≡ 0
+  unfolding addPeer appendPeer
+  room-taken few room = by-known (eqb (lookUp l count p .number) 0) refl
+    where
+      by-known : (t : Bool) → eqb (lookUp l count p .number) 0 ≡ t → addPeer l count p .number ≡ 0
+      by-known true e = simp e
+      by-known false e =
+          simp (e, right (length l) count (omega arith) (omega arith), lt-leb 65535 count few, lt-leb (length l) count room)
+
+  pub known-taken : lookUp l count p .number ≡ 0 → addPeer l count p .number ≡ 0
+  unfolding addPeer
+  known-taken z = simp (eq-eqb _ _ z)
+
   -- THEOREM. A refused peer changes nothing.
   pub refused-keeps : (addPeer l count p .number ≡ 0 → ⊥) → addPeer l count p .slots ≡ l
   refused-keeps n = refusal (addPeer l count p) case n
     where
       refusal : (a : Adding) → Case a → (a .number ≡ 0 → ⊥) → a .slots ≡ l
       refusal a (known id e) f = refl
-      refusal a (new w few room) f = absurd (f refl)
+      refusal a (new unknown w few room) f = absurd (f refl)
       refusal a (not-taken n g) f = refl
 
   -- THEOREM. Peers that are as they are stored stay so, the new one with them.
@@ -159,5 +181,5 @@ module _ (l : List Peer) (count : ℕ) (p : Peer) where
 
       by-added : (a : Adding) → Case a → AsStored (a .slots) (count + a .added)
       by-added a (known id e) i h = kept i (omega arith)
-      by-added a (new w few room) i h = grown-stored room i h
+      by-added a (new unknown w few room) i h = grown-stored room i h
       by-added a (not-taken n f) i h = kept i (omega arith)

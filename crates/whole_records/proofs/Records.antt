@@ -17,8 +17,8 @@ use Rattle.header.proofs.Writing.{length-header}
 use Rattle.header.proofs.Framing.{of-whole, frame-read}
 use Rattle.walk.specs.Judged.{fit}
 use Rattle.judge.specs.Body.{check}
-use Rattle.judge.specs.Record.{judgeAt}
-use Rattle.judge.proofs.Judging.{judged-fit}
+use Rattle.judge.specs.Record.{judgeAt, judgementAt}
+use Rattle.judge.proofs.Judging.{judged-fit, judgement-within}
 use Rattle.whole_records.specs.Stream.{Whole, Proper, recordOctets, placed}
 
 pub length-record : (r : Whole) → length (recordOctets r) ≡ size (r .header .kind) + length (r .body)
@@ -45,7 +45,8 @@ module _ (pre : List ℕ) (r : Whole) (rest s : List ℕ) (e : s ≡ pre ++ reco
       rw (q, drop-at (pre ++ h) (r .body ++ rest) (p + k) l) (take-at (r .body) rest (p + (k + length (r .body)) - (p + k)) n)
 
   module _ (ok : Proper r) where
-    read-there : placed p r .head ≡ headerAt s p
+    -- its header is read, and it is framed
+    pub read-there : placed p r .head ≡ headerAt s p
     unfolding headerAt
     read-there =
         let q : s ≡ pre ++ (headerOctets (r .header) ++ (r .body ++ rest)) = e ∙ simp append-assoc in
@@ -54,7 +55,7 @@ module _ (pre : List ℕ) (r : Whole) (rest s : List ℕ) (e : s ≡ pre ++ reco
         rw (le-ltb (length s) p (omega (arith, long-enough)), d)
         (read-octets (r .header) (ok .widths) (r .body ++ rest) (ok .known-type) (ok .fits))
 
-    framed-there : placed p r ≡ frameAt s p
+    pub framed-there : placed p r ≡ frameAt s p
     framed-there =
         let k : ℕ = size (r .header .kind) in
         let m : k + r .header .length .0 ≤ length s - p = omega (arith, long-enough, ok .long) in
@@ -68,3 +69,7 @@ module _ (pre : List ℕ) (r : Whole) (rest s : List ℕ) (e : s ≡ pre ++ reco
     judged-there =
         sym (judged-fit s p (placed p r) framed-there refl
         (sym (ok .passes) ∙ ap (check (r .header .kind) (r .header .subtype) (r .header .length .0)) (sym body-there)) refl)
+
+    -- the same of the public judgement
+    pub judgement-there : judgementAt s p ≡ record { start = p; frame = placed p r }
+    judgement-there = sym (judgement-within s p (omega (arith, long-enough)) (sym judged-there))
