@@ -3,7 +3,8 @@ use Prim.Native.Nat.{ℕ, zero, suc, _+_, _<_}
 use mathlib.Core.Path.{_≡_, refl, sym, _∙_, ap}
 use mathlib.Core.List.{List, [], _∷_, _++_, append-assoc, append-nil}
 use native.Mathlib.Omega.{arith}
-use lib.ListN.{length, length-append}
+use lib.ListN.{length, take, length-append}
+use lib.Seq.{length-take-le}
 use Rattle.header.proofs.KnownTypes.{size-least}
 use Rattle.walk.specs.Step.{Answer, handed, end, at, freshWalk}
 use Rattle.walk.specs.Promises.{upTo, answers}
@@ -12,6 +13,7 @@ use Rattle.judge.specs.Record.{judgeAt}
 use Rattle.candidate.specs.Candidate.{candidateAt}
 use Rattle.whole_records.specs.Stream.{Whole, AllProper, recordOctets, stream, placed, handedOut}
 use Rattle.whole_records.proofs.Records.{length-record, judged-there}
+use Rattle.whole_records.proofs.Written.{Holds}
 
 module _ (s : List ℕ) (window k : ℕ) where
   -- m or more calls are left, where the walk stands before rs
@@ -40,3 +42,10 @@ module _ (s : List ℕ) (window k : ℕ) where
 pub walk-of-records : (rs : List Whole) → AllProper rs → (window k m : ℕ) → length rs < m
     → answers (call judgeAt candidateAt (stream rs) window k) m freshWalk ≡ handedOut 0 rs ++ (end (length (stream rs)) ∷ [])
 walk-of-records rs ok window k m h = from-here (stream rs) window k rs ok m h [] refl
+
+-- the same of an output that was filled record after record, as far as it is used
+pub walk-of-output : (rs : List Whole) (used : ℕ) (output : List ℕ) → Holds rs used output → (window k m : ℕ) → length rs < m
+    → answers (call judgeAt candidateAt (take used output) window k) m freshWalk ≡ handedOut 0 rs ++ (end used ∷ [])
+walk-of-output rs used output h window k m l =
+    let u : length (stream rs) ≡ used = ap length (sym (h .front)) ∙ length-take-le used output (h .within) in
+    rw (h .front) (walk-of-records rs (h .proper) window k m l ∙ ap (λ (n : ℕ). handedOut 0 rs ++ (end n ∷ [])) u)

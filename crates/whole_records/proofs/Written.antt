@@ -1,10 +1,11 @@
 -- A header and a body that the calls wrote are one record: the body passes its check, the record is judged fit, and its body reads back.
-use Prim.Native.Nat.{ℕ, _-_, _^_, _<_, _≤_}
+use Prim.Native.Nat.{ℕ, _+_, _-_, _^_, _<_, _≤_}
 use mathlib.Core.Path.{_≡_, refl, sym, _∙_, ap}
 use mathlib.Core.Bool.{true, true≢false}
-use mathlib.Core.List.{List, [], _++_, append-assoc, append-nil}
-use lib.ListN.{length, take, drop, take-append-drop}
-use lib.Seq.{take-append-seam}
+use mathlib.Core.List.{List, [], _∷_, _++_, append-assoc, append-nil}
+use native.Mathlib.Omega.{arith}
+use lib.ListN.{length, take, drop, length-append, take-append-drop}
+use lib.Seq.{take-append-seam, take-at, length-take-le}
 use Rattle.answer.specs.Writing.{Writing}
 use Rattle.octets.specs.Octets.{part, Octets}
 use Rattle.rules.specs.Ask.{over}
@@ -29,7 +30,7 @@ use Rattle.walk.specs.Judged.{fit}
 use Rattle.judge.specs.Body.{check}
 use Rattle.judge.specs.Record.{judgeAt}
 use Rattle.judge.proofs.Bodies.{dump-rib, dump-peers, check-dump}
-use Rattle.whole_records.specs.Stream.{Whole, Proper, recordOctets, headed, placed}
+use Rattle.whole_records.specs.Stream.{Whole, Proper, AllProper, recordOctets, stream, headed, placed}
 use Rattle.whole_records.proofs.Records.{body-there, judged-there}
 
 -- the body that a writer wrote
@@ -43,22 +44,53 @@ pub record Stands (s : List ℕ) (p : ℕ) (r : Whole) (Reads : List ℕ → Typ
   pub judged : over s (judgeAt p) ≡ fit (placed p r)
   pub reads : Reads (part s (placed p r .body) (placed p r .end - placed p r .body))
 
--- a header that is written with the length of a body, whatever output each of the two was given: the body's may be what is left of the
--- header's own
-module _ (o : List ℕ) (h : CommonHeader) (i : InWidth h) (z : writeHeader o h .number ≡ 0) (b : Writing)
-    (stored : h .length .0 ≡ b .octets) (full : length (wroteBody b) ≡ b .octets)
-    (passes : check (h .kind) (h .subtype) (b .octets) (wroteBody b) ≡ 0) where
+-- records, and one more at the end
+stream-snoc : (rs : List Whole) (r : Whole) → stream (rs ++ (r ∷ [])) ≡ stream rs ++ recordOctets r
+unfolding stream
+stream-snoc [] r = append-nil (recordOctets r)
+stream-snoc (x ∷ rs) r = rw (stream-snoc rs r) (sym (append-assoc (recordOctets x) (stream rs) (recordOctets r)))
+
+proper-snoc : (rs : List Whole) (r : Whole) → AllProper rs → Proper r → AllProper (rs ++ (r ∷ []))
+proper-snoc [] r ok p = (p, tt)
+proper-snoc (x ∷ rs) r ok p = (ok .0, proper-snoc rs r (ok .1) p)
+
+-- the first octets of an output, as many as are used, are these records one after another
+pub record Holds (rs : List Whole) (used : ℕ) (output : List ℕ) : Type 0 where
+  pub proper : AllProper rs
+  pub within : used ≤ length output
+  pub front : take used output ≡ stream rs
+
+pub holds-none : (output : List ℕ) → Holds [] 0 output
+unfolding stream
+holds-none output = record { proper = tt; within = omega arith; front = refl }
+
+-- the header is accepted and stores the length of the body that was written, which passes its check. Each writer may have been given any
+-- output: the body's may be what is left of the header's own.
+pub record Matches (o : List ℕ) (h : CommonHeader) (b : Writing) : Type 0 where
+  pub widths : InWidth h
+  pub accepted : writeHeader o h .number ≡ 0
+  pub stored : h .length .0 ≡ b .octets
+  pub full : length (wroteBody b) ≡ b .octets
+  pub passes : check (h .kind) (h .subtype) (b .octets) (wroteBody b) ≡ 0
+
+module _ (o : List ℕ) (h : CommonHeader) (b : Writing) (fits : Matches o h b) where
   abbrev whole : Whole
   whole = record { header = h; body = wroteBody b }
 
   proper-written : Proper whole
   proper-written =
-      let a = write-accepted h o z in
-      record { widths = i; known-type = a .known-type; fits = a .fits; long = full ∙ sym stored; passes = rw stored passes }
+      let a = write-accepted h o (fits .accepted) in
+      record {
+        widths = fits .widths;
+        known-type = a .known-type;
+        fits = a .fits;
+        long = fits .full ∙ sym (fits .stored);
+        passes = rw (fits .stored) (fits .passes);
+      }
 
   octets-written : headed (writeHeader o h) b ≡ recordOctets whole ++ drop (b .octets) (b .output)
   octets-written =
-      rw (write-accepted h o z .all, take-append-seam (headerOctets h) (drop (length (headerOctets h)) o))
+      rw (write-accepted h o (fits .accepted) .all, take-append-seam (headerOctets h) (drop (length (headerOctets h)) o))
       (sym (append-assoc (headerOctets h) (wroteBody b) (drop (b .octets) (b .output))
       ∙ ap (λ (x : List ℕ). headerOctets h ++ x) (take-append-drop (b .octets) (b .output))))
 
@@ -73,6 +105,28 @@ module _ (o : List ℕ) (h : CommonHeader) (i : InWidth h) (z : writeHeader o h 
         proper = proper-written;
         judged = judged-there pre whole rest s e proper-written;
         reads = rw (body-there pre whole rest s e) reads;
+      }
+
+  -- THEOREM. Written after records that fill the front of an output, they are one record more.
+  pub holds-written : (rs : List Whole) (used : ℕ) (output : List ℕ) → Holds rs used output
+      → Holds (rs ++ (whole ∷ [])) (used + (writeHeader o h .octets + b .octets)) (take used output ++ headed (writeHeader o h) b)
+  holds-written rs used output k =
+      let f : List ℕ = take used output in
+      let r : List ℕ = recordOctets whole in
+      let rest : List ℕ = drop (b .octets) (b .output) in
+      let n : ℕ = used + (writeHeader o h .octets + b .octets) in
+      let e : f ++ headed (writeHeader o h) b ≡ f ++ r ++ rest = rw octets-written (sym (append-assoc f r rest)) in
+      let u : length f ≡ used = length-take-le used output (k .within) in
+      let v : writeHeader o h .octets ≡ length (headerOctets h) =
+      ap (λ (x : Writing). x .octets) (write-accepted h o (fits .accepted) .all) in
+      let w : length (wroteBody b) ≡ b .octets = fits .full in
+      let i : length r ≡ length (headerOctets h) + length (wroteBody b) = length-append (headerOctets h) (wroteBody b) in
+      let l : length (f ++ r) ≡ n = length-append f r ∙ omega arith in
+      let m : length (f ++ r ++ rest) ≡ length (f ++ r) + length rest = length-append (f ++ r) rest in
+      record {
+        proper = proper-snoc rs whole (k .proper) proper-written;
+        within = rw e (omega arith);
+        front = ap (take n) e ∙ take-at (f ++ r) rest n l ∙ ap (λ (x : List ℕ). x ++ r) (k .front) ∙ sym (stream-snoc rs whole);
       }
 
 -- ---- a peer table
@@ -96,12 +150,21 @@ module _ (out : List ℕ) (collector : ℕ) (view : List ℕ) (l : List Peer) (c
         sym (check-dump 1 b 13 n refl) ∙ sym (dump-peers 1 b refl) ∙ load-checked b l (ap (λ (x : Heading). x .number) (r .head))
 
     -- THEOREM. With its header it is one record, and its body reads back as it was written.
-    pub table-stands : (o : List ℕ) (h : CommonHeader) → InWidth h → writeHeader o h .number ≡ 0
-        → h .kind ≡ 13 → h .subtype ≡ 1 → h .length .0 ≡ table .octets → (pre : List ℕ)
-        → Stands (pre ++ headed (writeHeader o h) table) (length pre) (record { header = h; body = wroteBody table }) TableReads
-    table-stands o h i y k u stored pre =
-        stands-written o h i y table stored (length-of-write out collector view l count z)
-        (rw (k, u) (table-passes (table .octets))) table-reads pre
+    module _ (o : List ℕ) (h : CommonHeader) (i : InWidth h) (x : writeHeader o h .number ≡ 0) (k : h .kind ≡ 13) (u : h .subtype ≡ 1)
+        (e : h .length .0 ≡ table .octets) where
+      pub table-matches : Matches o h table
+      table-matches =
+          record {
+            widths = i;
+            accepted = x;
+            stored = e;
+            full = length-of-write out collector view l count z;
+            passes = rw (k, u) (table-passes (table .octets));
+          }
+
+      pub table-stands : (pre : List ℕ)
+          → Stands (pre ++ headed (writeHeader o h) table) (length pre) (record { header = h; body = wroteBody table }) TableReads
+      table-stands = stands-written o h table table-matches table-reads
 
 -- ---- a RIB body
 -- the subtype of the peer table is no RIB's
@@ -129,9 +192,18 @@ module _ (out : List ℕ) (t sequence bits : ℕ) (prefix : List ℕ) (gs : List
         sym (check-dump t b 13 n refl) ∙ sym (dump-rib t b (not-one t (met-carried b t c))) ∙ c
 
     -- THEOREM. With its header it is one record, and its body reads back as it was begun, with exactly those entries.
-    pub rib-stands : (o : List ℕ) (h : CommonHeader) → InWidth h → writeHeader o h .number ≡ 0
-        → h .kind ≡ 13 → h .subtype ≡ t → h .length .0 ≡ rib .octets → (pre : List ℕ)
-        → Stands (pre ++ headed (writeHeader o h) rib) (length pre) (record { header = h; body = wroteBody rib }) RibReads
-    rib-stands o h i x k u stored pre =
-        stands-written o h i x rib stored (length-of-build out t sequence bits prefix gs y rib refl z)
-        (rw (k, u) (rib-passes (rib .octets))) rib-reads pre
+    module _ (o : List ℕ) (h : CommonHeader) (i : InWidth h) (x : writeHeader o h .number ≡ 0) (k : h .kind ≡ 13) (u : h .subtype ≡ t)
+        (e : h .length .0 ≡ rib .octets) where
+      pub rib-matches : Matches o h rib
+      rib-matches =
+          record {
+            widths = i;
+            accepted = x;
+            stored = e;
+            full = length-of-build out t sequence bits prefix gs y rib refl z;
+            passes = rw (k, u) (rib-passes (rib .octets));
+          }
+
+      pub rib-stands : (pre : List ℕ)
+          → Stands (pre ++ headed (writeHeader o h) rib) (length pre) (record { header = h; body = wroteBody rib }) RibReads
+      rib-stands = stands-written o h rib rib-matches rib-reads
