@@ -189,7 +189,7 @@ uint32_t mrt_rib_first(const uint8_t *body, size_t body_len, uint16_t subtype, u
 /*
  * The entry at a cursor, and the cursor after it. The head is not looked at.
  * Values: 1, those of the entry, where the next one starts, how many are left; or eight times 0 where none is left or the
- * next one does not fit. Refusals: 6, 9.
+ * next one does not fit. Refusals: 8 (an offset beyond the body), 6, 9.
  */
 uint32_t mrt_rib_next(const uint8_t *body, size_t body_len, uint16_t subtype, size_t at, uint16_t left, uint64_t *out,
                       size_t out_len);
@@ -198,7 +198,8 @@ uint32_t mrt_rib_next(const uint8_t *body, size_t body_len, uint16_t subtype, si
  * Entries from a cursor on, one after another, as long as there are any and `out` has five places for each: many answers of
  * mrt_rib_next by one call, each with the values of mrt_rib_entry. `cursor` has the two values of mrt_rib_first and is moved past
  * them. Where fewer entries come than there are places for, reading has stopped.
- * Refusals: 8 (fewer than two places, or more than 65,535 left), 6, 9 (fewer than five places), which leave everything as it was.
+ * Refusals: 8 (fewer than two places, more than 65,535 left, or an offset beyond the body), 6, 9 (fewer than five places), which
+ * leave everything as it was.
  */
 mrt_handed mrt_rib_entries(const uint8_t *body, size_t body_len, uint16_t subtype, uint64_t *cursor, size_t cursor_len, uint64_t *out,
                            size_t out_len);
@@ -238,7 +239,7 @@ int64_t mrt_age(uint32_t timestamp, uint32_t originated);
 /*
  * Whether a scan may take up the record at an offset.
  * Values: 1, the family (5, or 16 for types 16 and 17), the evidence (1 legacy, 2 marker, 3 state change), where the record
- * ends; or four times 0 where it may not, beyond the stream too. Refusals: 9.
+ * ends; or four times 0 where it may not. Refusals: 8 (an offset beyond the stream), 9.
  */
 uint32_t mrt_candidate(const uint8_t *s, size_t s_len, size_t at, uint64_t *out, size_t out_len);
 

@@ -95,6 +95,23 @@ pub struct RibEntry {
     pub age: i64,
 }
 
+/// What a cursor comes to: the entry there, where one is handed out, and the cursor after it. The age is not asked for.
+#[derive(Debug, Clone, Copy, PartialEq, Eq, Default)]
+pub struct RibStep {
+    pub handed: bool,
+    pub entry: RibEntry,
+    pub at: usize,
+    pub left: u16,
+}
+
+/// Where a body ends that can be given entries, where its count stands, and that count.
+#[derive(Debug, Clone, Copy, PartialEq, Eq, Default)]
+pub struct Builder {
+    pub length: usize,
+    pub count_at: usize,
+    pub count: u64,
+}
+
 /// An entry to be written.
 #[derive(Debug, Clone, Copy, PartialEq, Eq, Default)]
 pub struct NewEntry<'a> {

@@ -80,7 +80,8 @@ fn asked(question: &Question, subject: &dyn Subject) -> Vec<Asked> {
             vec![checked(kind, subtype, stored, body, refusal)]
         }
         (Question::Candidate { stream, at }, Reply::Candidate(answer)) => {
-            vec![Asked::of(5, stream, &[at], candidate(&answer))]
+            // the scan's own question, which a place beyond the stream does not refuse
+            vec![Asked::of(5, stream, &[at], candidate(&answer.value))]
         }
         (Question::PeerRead { body, .. }, Reply::Table(answer, slots)) => table(body, &answer, &slots),
         (Question::RibRead { subtype, body }, Reply::Rib(answer)) => rib(subtype, body, &answer, subject),

@@ -35,8 +35,8 @@ pub fn may_be_silent(question: &Question, of_reading: &Reply) -> bool {
     match *question {
         Question::HeaderRead { .. } | Question::Frame { .. } | Question::Judge { .. } => refused == 8,
         Question::Candidate { stream, at } | Question::Aligned { stream, from: at, .. } => at > stream.len(),
-        // The crate has no check of a body by itself.
-        Question::BodyCheck { .. } => true,
+        // The crate has no check of a body by itself, no cursor and no builder of the caller's.
+        Question::BodyCheck { .. } | Question::RibNext { .. } | Question::RibPush { .. } => true,
         // A scan may stop among the octets that are put before the place in question.
         Question::Scan { .. } => true,
         Question::Step { stream, walk, .. } => walk.finished || walk.position > stream.len(),
@@ -74,6 +74,9 @@ fn refusal(reply: &Reply) -> u8 {
         Reply::Rib(answer) => answer.refusal,
         Reply::Entry(answer) => answer.refusal,
         Reply::Checked(refusal) => *refusal,
+        Reply::RibStep(answer) => answer.refusal,
+        Reply::Pushed(answer, _) => answer.refusal,
+        Reply::Candidate(answer) => answer.refusal,
         _ => 0,
     }
 }

@@ -1,7 +1,8 @@
 //! The proved library, asked through its C exports (`include/mrt.h`). It is to have no difference from the reading.
 
 use crate::answers::{
-    Address, Answer, Candidate, Event, Frame, Header, NewEntry, Peer, PeerTable, RibEntry, RibTable, Walk,
+    Address, Answer, Builder, Candidate, Event, Frame, Header, NewEntry, Peer, PeerTable, RibEntry, RibStep, RibTable,
+    Walk,
 };
 use crate::exports::{self, Found, Written};
 use crate::question::{Question, Reply};
@@ -226,6 +227,31 @@ impl Subject for Proved {
         Some(Ok(value).into())
     }
 
+    /// The step by the call for one entry, and by the call for many with one row, which is to do the same.
+    fn rib_next(&self, subtype: u16, body: &[u8], at: usize, left: u16) -> Option<Answer<RibStep>> {
+        let (refusal, [more, peer, originated, path, start, end, next, after]) =
+            exports::rib_next(body, subtype, at, left);
+        let before = [at as u64, u64::from(left)];
+        let (mut cursor, mut rows) = (before, [[0; 5]]);
+        let handed = exports::rib_entries(body, subtype, &mut cursor, &mut rows);
+        let moved = if more == 1 { [next, after] } else { before };
+        if (handed.refusal, handed.count, cursor) != (refusal, more, moved)
+            || rows != [[peer, originated, path, start, end]]
+        {
+            return Some(Err(AT_ODDS).into());
+        }
+        let entry = RibEntry {
+            peer_index: peer as u16,
+            originated: originated as u32,
+            path: path as u32,
+            attributes_at: start as usize,
+            attributes_len: (end - start) as usize,
+            age: 0,
+        };
+        let value = RibStep { handed: more == 1, entry, at: next as usize, left: after as u16 };
+        Some(Answer { refusal: refusal as u8, value })
+    }
+
     fn rib_begin(&self, out: &mut [u8], head: &NewHead) -> Option<Answer<usize>> {
         written(exports::begin_rib(out, head.subtype, head.sequence, head.bits, &head.prefix))
     }
@@ -241,14 +267,28 @@ impl Subject for Proved {
         written(added)
     }
 
-    fn candidate(&self, stream: &[u8], offset: usize) -> Option<Candidate> {
-        let (_, values) = exports::candidate(stream, offset);
-        Some(Candidate {
+    /// The builder's places after a refusal are to be as they were.
+    fn rib_push(&self, buffer: &mut [u8], subtype: u16, builder: Builder, entry: &NewEntry) -> Option<Answer<Builder>> {
+        let before = [builder.length as u64, builder.count_at as u64, builder.count];
+        let mut places = before;
+        let refusal = exports::push_entry(buffer, subtype, &mut places, entry);
+        let [length, count_at, count] = places;
+        Some(match refusal {
+            0 => Ok(Builder { length: length as usize, count_at: count_at as usize, count }).into(),
+            refusal if places == before => Err(refusal as u8).into(),
+            _ => Err(AT_ODDS).into(),
+        })
+    }
+
+    fn candidate(&self, stream: &[u8], offset: usize) -> Option<Answer<Candidate>> {
+        let (refusal, values) = exports::candidate(stream, offset);
+        let value = Candidate {
             stands: values[0] == 1,
             family: values[1] as u16,
             evidence: values[2] as u8,
             end: values[3] as usize,
-        })
+        };
+        Some(Answer { refusal: refusal as u8, value })
     }
 
     fn step(&self, stream: &[u8], walk: &mut Walk, window: usize, asked: u8) -> Option<Event> {

@@ -1,7 +1,8 @@
 //! One question with its input, put to any subject, and the reply with the lent memory as the call left it.
 
 use crate::answers::{
-    Address, Answer, Candidate, Event, Found, Frame, Header, NewEntry, Peer, PeerTable, RibEntry, RibTable, Tried, Walk,
+    Address, Answer, Builder, Candidate, Event, Found, Frame, Header, NewEntry, Peer, PeerTable, RibEntry, RibStep,
+    RibTable, Tried, Walk,
 };
 use crate::subject::{NewHead, NewTable, Subject};
 
@@ -19,8 +20,10 @@ pub enum Question<'a> {
     PeerWrite { room: &'a [u8], table: NewTable<'a> },
     RibRead { subtype: u16, body: &'a [u8] },
     RibEntry { subtype: u16, body: &'a [u8], timestamp: u32, index: usize },
+    RibNext { subtype: u16, body: &'a [u8], at: usize, left: u16 },
     RibBegin { room: &'a [u8], head: NewHead },
     RibAdd { buffer: &'a [u8], length: usize, subtype: u16, entry: NewEntry<'a> },
+    RibPush { buffer: &'a [u8], subtype: u16, builder: Builder, entry: NewEntry<'a> },
     Candidate { stream: &'a [u8], at: usize },
     Aligned { stream: &'a [u8], from: usize, asked: u8 },
     Scan { stream: &'a [u8], from: usize, window: usize, asked: u8 },
@@ -40,7 +43,9 @@ pub enum Reply {
     Written(Answer<usize>, Vec<u8>),
     Rib(Answer<RibTable>),
     Entry(Answer<RibEntry>),
-    Candidate(Candidate),
+    RibStep(Answer<RibStep>),
+    Pushed(Answer<Builder>, Vec<u8>),
+    Candidate(Answer<Candidate>),
     Tried(Tried),
     Found(Found),
     Step(Event, Walk),
@@ -95,6 +100,9 @@ impl Question<'_> {
             Question::RibEntry { subtype, body, timestamp, index } => {
                 subject.rib_entry(subtype, body, timestamp, index).map(Reply::Entry)
             }
+            Question::RibNext { subtype, body, at, left } => {
+                subject.rib_next(subtype, body, at, left).map(Reply::RibStep)
+            }
             _ => self.put_writing_question(subject),
         }
     }
@@ -106,6 +114,11 @@ impl Question<'_> {
             Question::RibBegin { room, head } => written(room, |out| subject.rib_begin(out, &head)),
             Question::RibAdd { buffer, length, subtype, entry } => {
                 written(buffer, |out| subject.rib_add(out, length, subtype, &entry))
+            }
+            Question::RibPush { buffer, subtype, builder, entry } => {
+                let mut out = buffer.to_vec();
+                let answer = subject.rib_push(&mut out, subtype, builder, &entry)?;
+                Some(Reply::Pushed(answer, out))
             }
             _ => unreachable!("every other question is put above"),
         }
@@ -125,8 +138,10 @@ impl Question<'_> {
             Question::PeerWrite { .. } => "peer table write",
             Question::RibRead { .. } => "rib read",
             Question::RibEntry { .. } => "rib entry",
+            Question::RibNext { .. } => "rib next",
             Question::RibBegin { .. } => "rib begin",
             Question::RibAdd { .. } => "rib add",
+            Question::RibPush { .. } => "rib push",
             Question::Candidate { .. } => "candidate",
             Question::Aligned { .. } => "aligned try",
             Question::Scan { .. } => "scan",
@@ -151,7 +166,9 @@ impl Question<'_> {
             Question::BodyCheck { body, .. }
             | Question::PeerRead { body, .. }
             | Question::RibRead { body, .. }
-            | Question::RibEntry { body, .. } => body,
+            | Question::RibEntry { body, .. }
+            | Question::RibNext { body, .. } => body,
+            Question::RibPush { buffer, .. } => buffer,
             Question::RibAdd { buffer, length, .. } => buffer.get(..length).unwrap_or(buffer),
             _ => &[],
         }

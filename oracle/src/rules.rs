@@ -19,6 +19,11 @@ pub fn broken(question: &Question, reply: &Reply) -> Option<&'static str> {
             broken_by_refusal(answer).or_else(|| broken_by_prefix(&prefix, bits))
         }
         (_, Reply::Entry(answer)) => broken_by_refusal(answer),
+        (_, Reply::Candidate(answer)) => broken_by_refusal(answer),
+        (_, Reply::RibStep(answer)) => broken_by_refusal(answer),
+        (Question::RibPush { buffer, .. }, Reply::Pushed(answer, after)) => {
+            broken_by_refusal(answer).or_else(|| broken_by_writing(buffer, after, 0..answer.value.length))
+        }
         (Question::PeerRead { slots, .. }, Reply::Table(answer, after)) => {
             broken_by_refusal(answer).or_else(|| broken_by_writing(slots, after, 0..answer.value.count))
         }

@@ -1,7 +1,8 @@
 //! Whoever answers 01's questions: the plain reading, the crate, and later the proved library through its C exports.
 
 use crate::answers::{
-    Address, Answer, Candidate, Event, Found, Frame, Header, NewEntry, Peer, PeerTable, RibEntry, RibTable, Tried, Walk,
+    Address, Answer, Builder, Candidate, Event, Found, Frame, Header, NewEntry, Peer, PeerTable, RibEntry, RibStep,
+    RibTable, Tried, Walk,
 };
 use crate::reading;
 
@@ -56,6 +57,11 @@ pub trait Subject {
         None
     }
 
+    /// The entry at a cursor: where it is to start, and how many are left.
+    fn rib_next(&self, subtype: u16, body: &[u8], at: usize, left: u16) -> Option<Answer<RibStep>> {
+        None
+    }
+
     /// Answers the length of the body begun.
     fn rib_begin(&self, out: &mut [u8], head: &NewHead) -> Option<Answer<usize>> {
         None
@@ -66,7 +72,12 @@ pub trait Subject {
         None
     }
 
-    fn candidate(&self, stream: &[u8], at: usize) -> Option<Candidate> {
+    /// The entry where a builder stands; the builder after it is answered.
+    fn rib_push(&self, buffer: &mut [u8], subtype: u16, builder: Builder, entry: &NewEntry) -> Option<Answer<Builder>> {
+        None
+    }
+
+    fn candidate(&self, stream: &[u8], at: usize) -> Option<Answer<Candidate>> {
         None
     }
 
@@ -182,6 +193,10 @@ impl Subject for Reading {
         Some(reading::read_entry(subtype, body, timestamp, index))
     }
 
+    fn rib_next(&self, subtype: u16, body: &[u8], at: usize, left: u16) -> Option<Answer<RibStep>> {
+        Some(reading::next_entry(subtype, body, at, left))
+    }
+
     fn rib_begin(&self, out: &mut [u8], head: &NewHead) -> Option<Answer<usize>> {
         Some(reading::begin_rib(out, head.subtype, head.sequence, head.bits, &head.prefix))
     }
@@ -190,7 +205,11 @@ impl Subject for Reading {
         Some(reading::add_entry(buffer, length, subtype, entry))
     }
 
-    fn candidate(&self, stream: &[u8], at: usize) -> Option<Candidate> {
+    fn rib_push(&self, buffer: &mut [u8], subtype: u16, builder: Builder, entry: &NewEntry) -> Option<Answer<Builder>> {
+        Some(reading::push_entry(buffer, subtype, builder, entry))
+    }
+
+    fn candidate(&self, stream: &[u8], at: usize) -> Option<Answer<Candidate>> {
         Some(reading::candidate(stream, at))
     }
 

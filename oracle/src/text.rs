@@ -1,6 +1,6 @@
 //! Questions and replies as text: octets in hex, all other numbers decimal.
 
-use crate::answers::Peer;
+use crate::answers::{NewEntry, Peer};
 use crate::question::{Question, Reply};
 
 /// Longer inputs are shown by their first octets.
@@ -56,6 +56,7 @@ pub fn settings(question: &Question) -> String {
         Question::RibEntry { subtype, timestamp, index, .. } => {
             format!("subtype {subtype}, timestamp {timestamp}, entry {index}")
         }
+        Question::RibNext { subtype, at, left, .. } => format!("subtype {subtype}, at {at}, {left} left"),
         _ => table_settings(question),
     }
 }
@@ -81,13 +82,18 @@ fn table_settings(question: &Question) -> String {
         Question::HeaderWrite { room, header } => format!("room {}, {header:?}", room.len()),
         Question::RibBegin { room, head } => format!("room {}, {head:?}", room.len()),
         Question::RibAdd { buffer, length, subtype, entry } => {
-            let octets = octets(entry.attributes);
-            let (index, time, path) = (entry.peer_index, entry.originated, entry.path);
-            let new = format!("peer {index}, time {time}, path {path}, attributes {octets}");
-            format!("subtype {subtype}, length {length} of {}, {new}", buffer.len())
+            format!("subtype {subtype}, length {length} of {}, {}", buffer.len(), new_entry(entry))
+        }
+        Question::RibPush { subtype, builder, entry, .. } => {
+            format!("subtype {subtype}, {builder:?}, {}", new_entry(entry))
         }
         other => format!("{other:?}"),
     }
+}
+
+fn new_entry(entry: &NewEntry) -> String {
+    let NewEntry { peer_index, originated, path, attributes } = *entry;
+    format!("peer {peer_index}, time {originated}, path {path}, attributes {}", octets(attributes))
 }
 
 pub fn reply(reply: &Reply) -> String {
@@ -95,6 +101,7 @@ pub fn reply(reply: &Reply) -> String {
         Reply::Table(answer, held) => format!("{answer:?}, slots {}", slots(held)),
         Reply::Added(answer, held) => format!("{answer:?}, slots {}", slots(held)),
         Reply::Written(answer, out) => format!("{answer:?}, output {}", octets(out)),
+        Reply::Pushed(answer, out) => format!("{answer:?}, output {}", octets(out)),
         other => format!("{other:?}"),
     }
 }

@@ -87,7 +87,7 @@ fn microseconds_of_a_candidate() {
     for subject in BOTH {
         for (micros, stands) in [(999_999, true), (1_000_000, false)] {
             let record = make::timed_record(17, 0, micros, &make::state_change_body(0, 1));
-            assert_eq!(subject.candidate(&record, 0).expect("every subject tests candidates").stands, stands);
+            assert_eq!(subject.candidate(&record, 0).expect("every subject tests candidates").value.stands, stands);
             assert!(matches!(walk(subject, &record, 1, 1)[0], Event::Record { .. }));
         }
     }

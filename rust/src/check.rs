@@ -90,25 +90,29 @@ pub struct Candidate {
 }
 
 impl Candidate {
-    /// The candidate at an offset, or `None` where a scan may not take up, beyond the stream too.
+    /// The candidate at an offset, or `None` where a scan may not take up.
+    ///
+    /// # Errors
+    ///
+    /// [`Refusal::Beyond`] for an offset beyond the stream.
     ///
     /// ```
-    /// use mrt::{Candidate, Evidence, Family};
+    /// use mrt::{Candidate, Evidence, Family, Refusal};
     ///
     /// let mut stream = [0; 24];
     /// stream[4..12].copy_from_slice(&[0, 5, 0, 7, 0, 0, 0, 12]);
-    /// let candidate = Candidate::read(&stream, 0).unwrap();
+    /// let candidate = Candidate::read(&stream, 0)?.unwrap();
     /// assert_eq!((candidate.family, candidate.evidence, candidate.end), (Family::Legacy, Evidence::Legacy, 24));
-    /// assert_eq!(Candidate::read(&stream, 1), None);
+    /// assert_eq!(Candidate::read(&stream, 1), Ok(None));
+    /// assert_eq!(Candidate::read(&stream, 25), Err(Refusal::Beyond));
+    /// # Ok::<(), Refusal>(())
     /// ```
-    pub fn read(stream: &[u8], at: usize) -> Option<Candidate> {
-        match boundary::candidate(stream, at) {
-            Ok([1, family, evidence, end]) => Some(Candidate {
-                family: if family == 5 { Family::Legacy } else { Family::Bgp4mp },
-                evidence: Evidence::of(evidence),
-                end: end as usize,
-            }),
-            _ => None,
-        }
+    pub fn read(stream: &[u8], at: usize) -> Result<Option<Candidate>, Refusal> {
+        let [stands, family, evidence, end] = boundary::candidate(stream, at)?;
+        Ok((stands == 1).then_some(Candidate {
+            family: if family == 5 { Family::Legacy } else { Family::Bgp4mp },
+            evidence: Evidence::of(evidence),
+            end: end as usize,
+        }))
     }
 }

@@ -146,14 +146,16 @@ static void judgements(void) {
     for (size_t at = 72; at <= 84; at++) {
         g.at = at;
         answers("judge at the end", judge, &g, at <= 83 ? 1 : 8, first, 9);
-        answers("candidate at the end", candidate, &g, 0, fails, 4);
+        answers("candidate at the end", candidate, &g, at <= 83 ? 0 : 8, fails, 4);
     }
     g.at = SIZE_MAX;
     answers("judge beyond", judge, &g, 8, first, 9);
-    answers("candidate beyond", candidate, &g, 0, fails, 4);
+    answers("candidate beyond", candidate, &g, 8, fails, 4);
     g = (struct given){.s = NULL, .n = 0, .at = 0};
     answers("judge nothing", judge, &g, 1, first, 9);
     answers("candidate in nothing", candidate, &g, 0, fails, 4);
+    g.at = 1;
+    answers("candidate beyond nothing", candidate, &g, 8, fails, 4);
     free(s);
 }
 
@@ -282,16 +284,20 @@ static void rib(const uint8_t *whole, size_t most, uint16_t subtype, uint64_t pa
         }
         g.at = 9;
         g.left = 2;
-        answers("next", rib_next, &g, 0, n < most ? none : step, 8);
+        const uint32_t beyond_body = n < 9 ? 8 : 0;
+        answers("next", rib_next, &g, beyond_body, n < most ? none : step, 8);
         g.left = 1;
-        answers("next, the last", rib_next, &g, 0, n < most ? none : one, 8);
+        answers("next, the last", rib_next, &g, beyond_body, n < most ? none : one, 8);
         g.left = 0;
-        answers("next, none left", rib_next, &g, 0, none, 8);
+        answers("next, none left", rib_next, &g, beyond_body, none, 8);
         g.left = UINT16_MAX;
         const size_t places_beyond[4] = {n, n + 1, SIZE_MAX, SIZE_MAX - 7};
         for (size_t i = 0; i < 4; i++) {
             g.at = places_beyond[i];
-            answers("next at the end", rib_next, &g, 0, none, 8);
+            answers("next at the end", rib_next, &g, i ? 8 : 0, none, 8);
+            g.subtype = 6;
+            answers("next at the end 6", rib_next, &g, i ? 8 : 6, none, 8);
+            g.subtype = subtype;
         }
         g.at = 0;
         const uint16_t others[6] = {0, 1, 6, 7, 12, UINT16_MAX};

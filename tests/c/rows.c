@@ -125,16 +125,19 @@ static void entries_from(const uint8_t *s, size_t n, uint16_t subtype, uint64_t 
 }
 
 /* A call that refuses, whatever its places. */
-static void no_entries(const uint8_t *s, size_t n, uint16_t subtype, uint64_t left, size_t cursor_len, uint32_t number) {
+static void no_entries(const uint8_t *s, size_t n, uint16_t subtype, uint64_t at, uint64_t left, size_t cursor_len, uint32_t number) {
     for (size_t len = 0; len <= MRT_ENTRY_VALUES; len++) {
         uint64_t *out = places(len), *cursor = places(cursor_len);
+        if (cursor_len > 0) {
+            cursor[0] = at;
+        }
         if (cursor_len > 1) {
             cursor[1] = left;
         }
         mrt_handed got = mrt_rib_entries(s, n, subtype, cursor, cursor_len, out, len);
         expect(got.refusal == number && got.count == 0, "no entries", got.refusal, number);
         expect(holds(out, len, NULL, 0), "places without entries", len, number);
-        expect(cursor_len < 1 || cursor[0] == FILL, "the cursor without entries", len, number);
+        expect(cursor_len < 1 || cursor[0] == at, "the cursor without entries", len, number);
         free(out);
         free(cursor);
     }
@@ -149,17 +152,20 @@ static void ribs(void) {
             uint8_t *s = copy(whole, n);
             const uint64_t lefts[5] = {0, 1, ENTRIES - 1, ENTRIES, UINT16_MAX};
             for (size_t i = 0; i < 5; i++) {
-                entries_from(s, n, subtypes[k], 8, lefts[i]);
+                entries_from(s, n, subtypes[k], n < 8 ? n : 8, lefts[i]);
             }
             entries_from(s, n, subtypes[k], n, 1);
-            entries_from(s, n, subtypes[k], n + 1, 1);
-            entries_from(s, n, subtypes[k], UINT64_MAX, UINT16_MAX);
-            no_entries(s, n, subtypes[k], UINT16_MAX + 1, 2, 8);
-            no_entries(s, n, subtypes[k], UINT64_MAX, 3, 8);
-            no_entries(s, n, subtypes[k], 1, 1, 8);
-            no_entries(s, n, subtypes[k], 1, 0, 8);
+            no_entries(s, n, subtypes[k], n, UINT16_MAX + 1, 2, 8);
+            no_entries(s, n, subtypes[k], n, UINT64_MAX, 3, 8);
+            no_entries(s, n, subtypes[k], n, 1, 1, 8);
+            no_entries(s, n, subtypes[k], n, 1, 0, 8);
+            const uint64_t beyond[3] = {n + 1, UINT32_MAX, UINT64_MAX};
+            for (size_t i = 0; i < 3; i++) {
+                no_entries(s, n, subtypes[k], beyond[i], i, 2, 8);
+                no_entries(s, n, others[i], beyond[i], UINT16_MAX, 2, 8);
+            }
             for (size_t i = 0; i < 6; i++) {
-                no_entries(s, n, others[i], 1, 2, 6);
+                no_entries(s, n, others[i], n, 1, 2, 6);
             }
             free(s);
         }

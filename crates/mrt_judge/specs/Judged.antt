@@ -2,8 +2,13 @@
 -- its frame; a scan's candidate has 1, its family, its evidence and where it ends, or four times 0 where the record is none.
 use Prim.Native.Nat.{ℕ}
 use mathlib.Core.List.{List, [], _∷_}
+use mathlib.Core.Bool.{cond}
+use lib.ListN.{length}
+use lib.Dec.{ltb}
+use Rattle.rules.specs.Ask.{over}
 use Rattle.walk.specs.Judged.{Candidate, stands, fails}
 use Rattle.judge.specs.Record.{Judging}
+use Rattle.candidate.specs.Candidate.{candidateAt}
 use Rattle.lent.specs.Export.{exported}
 use Rattle.lent.specs.Records.{frameValues}
 
@@ -20,6 +25,6 @@ abbrev pub candidateValues : Candidate → List ℕ
 candidateValues (stands f v e) = 1 ∷ f ∷ v ∷ e ∷ []
 candidateValues fails = 0 ∷ 0 ∷ 0 ∷ 0 ∷ []
 
--- a record that is tested
-abbrev pub candidateOut : List ℕ → Candidate → List ℕ × ℕ
-candidateOut out c = exported out 0 (candidateValues c)
+-- the record at an offset of the stream s, tested; an offset beyond the stream is 8
+unfoldable pub candidateOut : List ℕ → List ℕ → ℕ → List ℕ × ℕ
+candidateOut out s at = exported out (cond (ltb (length s) at) 8 0) (candidateValues (over s (candidateAt at)))

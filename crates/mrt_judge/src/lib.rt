@@ -1,11 +1,10 @@
 // Judgements across the boundary: a record, a body, and a candidate of a scan.
 ghost use mathlib.Core.Path.{_≡_};
-ghost use Rattle.rules.specs.Ask.{over};
 ghost use Rattle.judge.specs.Body.{check};
-ghost use Rattle.candidate.specs.Candidate.{candidateAt};
 ghost use Rattle.judge.specs.Record.{judgementAt};
 ghost use Rattle.mrt_judge.specs.Judged.{judgedOut, candidateOut};
 use answer::Outcome;
+use answer::Refusal;
 use candidate::CandidateAnswer;
 use header::StoredLength;
 use judge::JudgeAnswer;
@@ -30,11 +29,14 @@ pub extern "C" fn mrt_judge(s: &[u8], at: usize, out: &mut [u64]) -> u32
     }
 }
 
-// Whether a scan may take up the record at an offset.
+// Whether a scan may take up the record at an offset of a stream.
 #[no_mangle]
 pub extern "C" fn mrt_candidate(s: &[u8], at: usize, out: &mut [u64]) -> u32
-    ensures answer { λ r. ⌜ (now (out .exit), r) ≡ candidateOut (now (out .entry)) (over (now (s .entry)) (candidateAt at)) ⌝ }
+    ensures answer { λ r. ⌜ (now (out .exit), r) ≡ candidateOut (now (out .entry)) (now (s .entry)) at ⌝ }
 {
+    if s.len() < at {
+        return lent::refusal(Refusal::Beyond);
+    }
     match candidate::candidate_at(s, at) {
         CandidateAnswer::Fails => {
             let v = [0u64; 4];

@@ -32,21 +32,27 @@ module _ (s : List ℕ) (t : ℕ) (cs out : List ℕ) where
     entries-many e l = simp (e, le-leb _ _ p, lt-leb _ _ l)
 
     module _ (m : getD cs 1 0 ≤ 65535) where
-      pub entries-other : {h : Handed} → h ≡ noneHanded 6 → carried t ≡ false → (cs, (out, h)) ≡ entriesOut s t cs out
+      -- the next entry would start beyond the body
+      pub entries-beyond : {h : Handed} → h ≡ noneHanded 8 → length s < getD cs 0 0 → (cs, (out, h)) ≡ entriesOut s t cs out
       unfolding entriesOut holdsCursor
-      entries-other e o = simp (e, le-leb _ _ p, le-leb _ _ m, o)
+      entries-beyond e l = simp (e, le-leb _ _ p, le-leb _ _ m, lt-leb _ _ l)
 
-      module _ (o : carried t ≡ true) where
-        -- too few places for an entry
-        pub entries-full : {h : Handed} → h ≡ noneHanded 9 → length out < 5 → (cs, (out, h)) ≡ entriesOut s t cs out
+      module _ (w : getD cs 0 0 ≤ length s) where
+        pub entries-other : {h : Handed} → h ≡ noneHanded 6 → carried t ≡ false → (cs, (out, h)) ≡ entriesOut s t cs out
         unfolding entriesOut holdsCursor
-        entries-full e l = simp (e, le-leb _ _ p, le-leb _ _ m, o, lt-leb _ _ l)
+        entries-other e o = simp (e, le-leb _ _ p, le-leb _ _ m, le-leb _ _ w, o)
 
-        -- k entries are handed out, and the cursor is c after them
-        pub entries-taken : 5 ≤ length out → {u : List ℕ} {k : ℕ} {c : Cursor}
-            → (u, (k, c)) ≡ rowsOut out (rowsFrom (entryAt s t) (length out / 5) (cursorIn cs))
-            → (set (set cs 0 (c .at)) 1 (c .left), (u, rowsHanded k)) ≡ entriesOut s t cs out
-        unfolding entriesOut holdsCursor patch
-        entries-taken l e =
-            ap (λ (x : List ℕ × (ℕ × Cursor)). (set (set cs 0 (x .1 .1 .at)) 1 (x .1 .1 .left), (x .0, rowsHanded (x .1 .0)))) e
-            ∙ simp (le-leb _ _ p, le-leb _ _ m, o, le-leb _ _ l)
+        module _ (o : carried t ≡ true) where
+          -- too few places for an entry
+          pub entries-full : {h : Handed} → h ≡ noneHanded 9 → length out < 5 → (cs, (out, h)) ≡ entriesOut s t cs out
+          unfolding entriesOut holdsCursor
+          entries-full e l = simp (e, le-leb _ _ p, le-leb _ _ m, le-leb _ _ w, o, lt-leb _ _ l)
+
+          -- k entries are handed out, and the cursor is c after them
+          pub entries-taken : 5 ≤ length out → {u : List ℕ} {k : ℕ} {c : Cursor}
+              → (u, (k, c)) ≡ rowsOut out (rowsFrom (entryAt s t) (length out / 5) (cursorIn cs))
+              → (set (set cs 0 (c .at)) 1 (c .left), (u, rowsHanded k)) ≡ entriesOut s t cs out
+          unfolding entriesOut holdsCursor patch
+          entries-taken l e =
+              ap (λ (x : List ℕ × (ℕ × Cursor)). (set (set cs 0 (x .1 .1 .at)) 1 (x .1 .1 .left), (x .0, rowsHanded (x .1 .0)))) e
+              ∙ simp (le-leb _ _ p, le-leb _ _ m, le-leb _ _ w, o, le-leb _ _ l)

@@ -22,9 +22,9 @@ entryTurn x = cond (x .handed) (row (entryValues (x .entry)) (record { at = x .a
 unfoldable pub entryAt : List ℕ → ℕ → Cursor → Turn Cursor
 entryAt s t c = entryTurn (nextOf s t c)
 
--- the places cs hold a cursor
-unfoldable pub holdsCursor : List ℕ → Bool
-holdsCursor cs = leb 2 (length cs) && leb (getD cs 1 0) 65535
+-- the places cs hold a cursor of the body s: an offset within it, and no more entries than it may declare
+unfoldable pub holdsCursor : List ℕ → List ℕ → Bool
+holdsCursor s cs = leb 2 (length cs) && leb (getD cs 1 0) 65535 && leb (getD cs 0 0) (length s)
 
 -- the cursor that they hold
 abbrev pub cursorIn : List ℕ → Cursor
@@ -37,7 +37,7 @@ entriesHanded cs out r = (patch cs 0 (r .after .at ∷ r .after .left ∷ []), (
 -- one call over the body s with the subtype t
 unfoldable pub entriesOut : List ℕ → ℕ → List ℕ → List ℕ → List ℕ × (List ℕ × Handed)
 entriesOut s t cs out =
-    cond (holdsCursor cs)
+    cond (holdsCursor s cs)
     (cond (carried t)
     (cond (leb 5 (length out)) (entriesHanded cs out (rowsFrom (entryAt s t) (length out / 5) (cursorIn cs))) (cs, (out, noneHanded 9)))
     (cs, (out, noneHanded 6)))

@@ -33,6 +33,9 @@ pub extern "C" fn mrt_rib_entries(
     if 65535 < left {
         return lent::none_handed(8);
     }
+    if body.len() < at {
+        return lent::none_handed(8);
+    }
     let l = rib_head::layout_of(subtype);
     if !l.carried {
         return lent::none_handed(6);

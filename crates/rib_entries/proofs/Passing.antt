@@ -6,7 +6,7 @@ use mathlib.Core.List.{List}
 use native.Mathlib.Omega.{arith}
 use lib.ListN.{length}
 use lib.Dec.{leb}
-use borrow.Author.Tests.{le-leb, lt-leb, eq-eqb}
+use borrow.Author.Tests.{le-leb, lt-leb, leb-true, eq-eqb}
 use Rattle.answer.specs.Refusal.{numberOf}
 use Rattle.answer.specs.declared.Refusal.{Refusal}
 use Rattle.octets.specs.Octets.{beAt}
@@ -135,6 +135,15 @@ left-le p s at (suc n) =
     by-fit p s at (passed p s at (suc n) .left ≤ suc n)
     (λ f. rw f (let h = left-le p s (entryEnd p s at) n in omega arith))
     (λ f. rw f (omega arith))
+
+-- reading stops within the body
+pub passed-within : (p : ℕ) (s : List ℕ) (at n : ℕ) → at ≤ length s → passed p s at n .at ≤ length s
+unfolding passed fits
+passed-within p s at zero h = h
+passed-within p s at (suc n) h =
+    by-fit p s at (passed p s at (suc n) .at ≤ length s)
+    (λ f. rw f (passed-within p s (entryEnd p s at) n (leb-true _ _ f)))
+    (λ f. rw f h)
 
 -- where fewer than i + 1 are there, the entry at which the first i end does not fit
 pub stops-at : (p : ℕ) (s : List ℕ) (at n i : ℕ) → i < n → n - passed p s at n .left ≤ i → fits p s (passed p s at i .at) ≡ false

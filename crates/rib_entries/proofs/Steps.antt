@@ -5,8 +5,8 @@ use mathlib.Core.Bool.{Bool, true, false, cond}
 use native.Mathlib.Omega.{arith}
 use mathlib.Core.List.{List}
 use lib.Dec.{ltb, eqb·suc-zero}
-use lib.ListN.{getD}
-use borrow.Author.Tests.{eq-eqb, ne-eqb, le-ltb, ltb-false}
+use lib.ListN.{length, getD}
+use borrow.Author.Tests.{eq-eqb, ne-eqb, lt-ltb, le-ltb, ltb-false}
 use Rattle.answer.specs.Refusal.{numberOf, outcomeNumber}
 use Rattle.answer.specs.declared.Refusal.{Refusal}
 use Rattle.answer.specs.declared.Outcome.{Outcome}
@@ -26,30 +26,36 @@ use Rattle.answer.proofs.Refusals.{number-refusal}
 use Rattle.rib_entries.proofs.Passing.{here-fits, here-end, stops-at}
 
 module _ (s : List ℕ) (t : ℕ) (c : Cursor) where
-  -- another subtype
-  pub next-other : carried t ≡ false → noStep 6 ≡ nextOf s t c
+  -- an offset beyond the body
+  pub next-beyond : length s < c .at → noStep 8 ≡ nextOf s t c
   unfolding nextOf
-  next-other f = rw f
+  next-beyond h = rw (lt-ltb (length s) (c .at) h)
 
-  module _ (f : carried t ≡ true) where
-    -- no entry is left, or the next one does not fit
-    pub next-none : c .left ≡ 0 → noStep 0 ≡ nextOf s t c
+  module _ (h : c .at ≤ length s) where
+    -- another subtype
+    pub next-other : carried t ≡ false → noStep 6 ≡ nextOf s t c
     unfolding nextOf
-    next-none z = rw (f, eq-eqb (c .left) 0 z)
+    next-other f = rw (le-ltb (length s) (c .at) h, f)
 
-    module _ (z : c .left ≡ 0 → ⊥) where
-      pub next-short : fits (pathSize t) s (c .at) ≡ false → noStep 0 ≡ nextOf s t c
+    module _ (f : carried t ≡ true) where
+      -- no entry is left, or the next one does not fit
+      pub next-none : c .left ≡ 0 → noStep 0 ≡ nextOf s t c
       unfolding nextOf
-      next-short g = rw (f, ne-eqb (c .left) 0 z, g)
+      next-none z = rw (le-ltb (length s) (c .at) h, f, eq-eqb (c .left) 0 z)
 
-      -- an entry is handed out
-      pub next-handed : (a : EntryAnswer) → entryValues a ≡ entryHere (pathSize t) s (c .at) → {e : Entry} → a ≡ entry-answer.Read e
-          → record { number = 0; handed = true; entry = entryValues (entry-answer.Read e); at = e .end; left = c .left - 1 } ≡ nextOf s t c
-      unfolding nextOf
-      next-handed a said {e} v =
-          let here : entryValues (entry-answer.Read e) ≡ entryHere (pathSize t) s (c .at) = rw v at said in
-          let end : e .end ≡ entryEnd (pathSize t) s (c .at) = here-end (pathSize t) s (c .at) a said v in
-          rw (f, ne-eqb (c .left) 0 z, here-fits (pathSize t) s (c .at) a said v, here, end)
+      module _ (z : c .left ≡ 0 → ⊥) where
+        pub next-short : fits (pathSize t) s (c .at) ≡ false → noStep 0 ≡ nextOf s t c
+        unfolding nextOf
+        next-short g = rw (le-ltb (length s) (c .at) h, f, ne-eqb (c .left) 0 z, g)
+
+        -- an entry is handed out
+        pub next-handed : (a : EntryAnswer) → entryValues a ≡ entryHere (pathSize t) s (c .at) → {e : Entry} → a ≡ entry-answer.Read e
+            → record { number = 0; handed = true; entry = entryValues (entry-answer.Read e); at = e .end; left = c .left - 1 } ≡ nextOf s t c
+        unfolding nextOf
+        next-handed a said {e} v =
+            let here : entryValues (entry-answer.Read e) ≡ entryHere (pathSize t) s (c .at) = rw v at said in
+            let end : e .end ≡ entryEnd (pathSize t) s (c .at) = here-end (pathSize t) s (c .at) a said v in
+            rw (le-ltb (length s) (c .at) h, f, ne-eqb (c .left) 0 z, here-fits (pathSize t) s (c .at) a said v, here, end)
 
 -- what a head's check lets through
 module _ (s : List ℕ) (t : ℕ) where

@@ -122,10 +122,11 @@ nextValues (next-answer.Entry e c) =
 nextValues next-answer.End = noStep 0
 nextValues (next-answer.Refused r) = noStep (numberOf r)
 
--- the entry at the cursor c and the cursor after it, or the end
+-- the entry at the cursor c and the cursor after it, or the end: 8 for an offset beyond the body, then 6
 unfoldable pub nextOf : List ℕ → ℕ → Cursor → Stepped
 nextOf s t c =
-    cond (carried t)
+    cond (ltb (length s) (c .at)) (noStep 8)
+    (cond (carried t)
     (cond (eqb (c .left) 0) (noStep 0)
     (cond (fits (pathSize t) s (c .at))
     (record {
@@ -136,4 +137,4 @@ nextOf s t c =
       left = c .left - 1;
     })
     (noStep 0)))
-    (noStep 6)
+    (noStep 6))

@@ -63,10 +63,13 @@ pub fn after_entries(body: &[u8], subtype: u16) -> CursorAnswer
     }
 }
 
-// The entry at a cursor, with the cursor after it.
+// The entry at a cursor, with the cursor after it. Reading an entry asks for the place of the cursor too: one test serves both.
 pub fn next_entry(body: &[u8], subtype: u16, c: Cursor) -> NextAnswer
     ensures answer { λ r. ⌜ nextValues r ≡ nextOf (now (body .entry)) subtype c ⌝ }
 {
+    if body.len() < c.at {
+        return NextAnswer::Refused(Refusal::Beyond);
+    }
     let l = rib_head::layout_of(subtype);
     if !l.carried {
         return NextAnswer::Refused(Refusal::OtherSubtype);

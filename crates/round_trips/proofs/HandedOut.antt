@@ -6,14 +6,15 @@ use mathlib.Core.Bool.{Bool, true, false}
 use mathlib.Core.List.{List}
 use native.Mathlib.Nat.{sub-zero}
 use native.Mathlib.Omega.{arith}
+use lib.ListN.{length}
 use lib.Dec.{ltb}
-use borrow.Author.Tests.{ne-eqb, ltb-true, ltb-false}
+use borrow.Author.Tests.{ne-eqb, le-ltb, ltb-true, ltb-false}
 use Rattle.rib_head.specs.Layout.{pathSize}
 use Rattle.rib_head.specs.Head.{declared, entriesAt, checkRib}
 use Rattle.rib_entries.specs.Entry.{Placed, Stepped, noStep, fits, entryEnd, passed, readCount, entryOf, firstOf, nextOf}
 use Rattle.rib_entries.specs.declared.Cursor.{Cursor}
-use Rattle.rib_head.proofs.Heads.{met-carried}
-use Rattle.rib_entries.proofs.Passing.{by-fit, left-le, stops-at}
+use Rattle.rib_head.proofs.Heads.{met-carried, met-within}
+use Rattle.rib_entries.proofs.Passing.{by-fit, left-le, passed-within, stops-at}
 use Rattle.rib_entries.proofs.Steps.{placed-met, next-none, next-short}
 use Rattle.rib_entries.proofs.Steps.{count-le, entry-met}
 
@@ -55,6 +56,10 @@ module _ (s : List ℕ) (t : ℕ) (met : checkRib s t ≡ 0) where
   place : ℕ → ℕ
   place i = passed (pathSize t) s (entriesAt s) i .at
 
+  place-within : (i : ℕ) → place i ≤ length s
+  unfolding place
+  place-within i = passed-within (pathSize t) s (entriesAt s) i (met-within s t met)
+
   -- what a step answers below the read count
   step-below : (i : ℕ) → i < readCount s t → (c : Cursor) → c ≡ record { at = place i; left = declared s - i }
       → nextOf s t c ≡ record { number = 0; handed = true; entry = entryOf s t i; at = place (suc i); left = declared s - suc i }
@@ -66,6 +71,7 @@ module _ (s : List ℕ) (t : ℕ) (met : checkRib s t ≡ 0) where
       let m : declared s - i - 1 ≡ declared s - suc i = omega arith in
       rw (
         e,
+        le-ltb (length s) (place i) (place-within i),
         met-carried s t met,
         ne-eqb (declared s - i) 0 z,
         fits-below p s (entriesAt s) (declared s) i h .0,
@@ -99,11 +105,11 @@ module _ (s : List ℕ) (t : ℕ) (met : checkRib s t ≡ 0) where
           let l = ltb-true (readCount s t) (declared s) e in
           let c : Cursor = record { at = place (readCount s t); left = declared s - readCount s t } in
           let f = stops-at (pathSize t) s (entriesAt s) (declared s) (readCount s t) l (omega arith) in
-          sym (next-short s t c (met-carried s t met) (λ q. omega arith) f)
+          sym (next-short s t c (place-within (readCount s t)) (met-carried s t met) (λ q. omega arith) f)
       by-test false e =
           let l = ltb-false (readCount s t) (declared s) e in
           let c : Cursor = record { at = place (readCount s t); left = declared s - readCount s t } in
-          sym (next-none s t c (met-carried s t met) (omega arith))
+          sym (next-none s t c (place-within (readCount s t)) (met-carried s t met) (omega arith))
 
   pub hands-out : HandsOut s t
   hands-out = record { each = each; end = rw (cursor-after (readCount s t) (omega arith)) step-last }

@@ -73,8 +73,8 @@ impl Subject for Oracle {
         ribs::add(buffer, length, subtype, entry)
     }
 
-    fn candidate(&self, stream: &[u8], at: usize) -> Option<Candidate> {
-        walks::candidate(stream, at)
+    fn candidate(&self, stream: &[u8], at: usize) -> Option<Answer<Candidate>> {
+        walks::candidate(stream, at).map(|candidate| Ok(candidate).into())
     }
 
     fn aligned(&self, stream: &[u8], from: usize, asked: u8) -> Option<Tried> {

@@ -1,7 +1,7 @@
 //! RIB bodies of subtypes 2 to 5 and 8 to 11 (RFC 6396, 4.3.2 and 4.3.4; RFC 8050, 4.1; 01, RIB bodies).
 
 use super::octets::{be16, be32, Pen};
-use crate::answers::{Answer, NewEntry, RibEntry, RibTable};
+use crate::answers::{Answer, Builder, NewEntry, RibEntry, RibStep, RibTable};
 
 /// What a subtype decides: the most prefix bits, and whether entries have a path number.
 #[derive(Clone, Copy)]
@@ -131,16 +131,38 @@ pub fn read_entry(subtype: u16, body: &[u8], timestamp: u32, index: usize) -> An
     let entry = form(subtype).ok_or(6).and_then(|form| {
         let head = head(form, body).ok_or(7)?;
         let entry = nth(form, body, &head, index).ok_or(8)?;
-        Ok(RibEntry {
-            peer_index: entry.peer_index,
-            originated: entry.originated,
-            path: entry.path,
-            attributes_at: entry.attributes,
-            attributes_len: entry.end - entry.attributes,
-            age: i64::from(timestamp) - i64::from(entry.originated),
-        })
+        let age = i64::from(timestamp) - i64::from(entry.originated);
+        Ok(RibEntry { age, ..fields(&entry) })
     });
     entry.into()
+}
+
+fn fields(entry: &Entry) -> RibEntry {
+    RibEntry {
+        peer_index: entry.peer_index,
+        originated: entry.originated,
+        path: entry.path,
+        attributes_at: entry.attributes,
+        attributes_len: entry.end - entry.attributes,
+        age: 0,
+    }
+}
+
+/// The entry at a cursor, and the cursor after it: 8 beyond the body, then 6. Nothing is handed out where none is left or the
+/// next one does not fit.
+pub fn next_entry(subtype: u16, body: &[u8], at: usize, left: u16) -> Answer<RibStep> {
+    stepped(subtype, body, at, left).into()
+}
+
+fn stepped(subtype: u16, body: &[u8], at: usize, left: u16) -> Result<RibStep, u8> {
+    if at > body.len() {
+        return Err(8);
+    }
+    let form = form(subtype).ok_or(6)?;
+    Ok(match (left, entry_at(form, body, at)) {
+        (1.., Some(entry)) => RibStep { handed: true, entry: fields(&entry), at: entry.end, left: left - 1 },
+        _ => RibStep::default(),
+    })
 }
 
 fn nth(form: Form, body: &[u8], head: &Head, index: usize) -> Option<Entry> {
@@ -183,6 +205,32 @@ fn put_entry(buffer: &mut [u8], length: usize, subtype: u16, entry: &NewEntry) -
     let body = buffer.get(..length).ok_or(8)?;
     let form = form(subtype).ok_or(6)?;
     let head = whole_head(form, body).ok_or(7)?;
+    put_after(buffer, length, form, &head, entry)
+}
+
+/// Adds an entry where a builder stands and answers the builder after it: 8 for a length beyond the output or a count that no
+/// body has, 6, 7 where the head cannot be read or the builder's count is not the body's, 10, 9.
+pub fn push_entry(buffer: &mut [u8], subtype: u16, builder: Builder, entry: &NewEntry) -> Answer<Builder> {
+    pushed(buffer, subtype, builder, entry).into()
+}
+
+fn pushed(buffer: &mut [u8], subtype: u16, builder: Builder, entry: &NewEntry) -> Result<Builder, u8> {
+    let Builder { length, count_at, count } = builder;
+    let body = buffer.get(..length).ok_or(8)?;
+    if count > 65_535 {
+        return Err(8);
+    }
+    let form = form(subtype).ok_or(6)?;
+    let head = head(form, body).ok_or(7)?;
+    if (count_at, count) != (head.entries - 2, head.declared.into()) {
+        return Err(7);
+    }
+    let length = put_after(buffer, length, form, &head, entry)?;
+    Ok(Builder { length, count_at, count: count + 1 })
+}
+
+/// The entry after the first `length` octets, and the count of their head raised: 10, then 9.
+fn put_after(buffer: &mut [u8], length: usize, form: Form, head: &Head, entry: &NewEntry) -> Result<usize, u8> {
     let count = head.declared.checked_add(1).ok_or(10)?;
     let attributes_len = u16::try_from(entry.attributes.len()).map_err(|_| 10)?;
     if entry.path != 0 && !form.has_path {

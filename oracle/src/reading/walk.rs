@@ -47,9 +47,10 @@ fn judged(stream: &[u8], at: usize) -> Judged {
     }
 }
 
-/// The candidate at an offset.
-pub fn candidate(stream: &[u8], at: usize) -> Candidate {
-    standing(stream, at).unwrap_or_default()
+/// The candidate at an offset: 8 beyond the stream.
+pub fn candidate(stream: &[u8], at: usize) -> Answer<Candidate> {
+    let within = at <= stream.len();
+    within.then(|| standing(stream, at).unwrap_or_default()).ok_or(8).into()
 }
 
 /// The header's own tests come before any octet of the body is asked for.

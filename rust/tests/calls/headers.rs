@@ -8,7 +8,8 @@ fn all_refuse(stream: &[u8], at: usize, refusal: Refusal) {
     assert_eq!(Header::read(stream, at), Err(refusal));
     assert_eq!(Frame::read(stream, at), Err(refusal));
     assert_eq!(Record::read(stream, at), Err(refusal));
-    assert_eq!(Candidate::read(stream, at), None);
+    let beyond = stream.len() < at;
+    assert_eq!(Candidate::read(stream, at), if beyond { Err(Refusal::Beyond) } else { Ok(None) });
 }
 
 #[test]
@@ -94,12 +95,12 @@ fn a_written_header_is_read_back_and_touches_nothing_else() {
 #[test]
 fn a_candidate_has_microseconds_below_a_million_and_a_record_any() {
     let (under, over) = (keepalive(999_999, 19), keepalive(1_000_000, 19));
-    let candidate = Candidate::read(&under, 0).unwrap();
+    let candidate = Candidate::read(&under, 0).unwrap().unwrap();
     assert_eq!((candidate.family, candidate.evidence, candidate.end), (Family::Bgp4mp, Evidence::Marker, under.len()));
-    assert_eq!(Candidate::read(&over, 0), None);
+    assert_eq!(Candidate::read(&over, 0), Ok(None));
     assert!(Record::read(&under, 0).is_ok() && Record::read(&over, 0).is_ok());
-    assert_eq!(Candidate::read(&state_change(), 0).unwrap().evidence, Evidence::StateChange);
-    assert_eq!(Candidate::read(&record(13, 1, &[0; 8]), 0), None);
+    assert_eq!(Candidate::read(&state_change(), 0).unwrap().unwrap().evidence, Evidence::StateChange);
+    assert_eq!(Candidate::read(&record(13, 1, &[0; 8]), 0), Ok(None));
 }
 
 #[test]

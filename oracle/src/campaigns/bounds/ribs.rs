@@ -2,7 +2,7 @@
 //! refusals of the writers in their order.
 
 use super::super::Put;
-use crate::answers::NewEntry;
+use crate::answers::{Builder, NewEntry};
 use crate::make;
 use crate::question::Question;
 use crate::subject::NewHead;
@@ -19,10 +19,12 @@ pub fn run(put: Put) {
         }
     }
     after_the_last(put);
+    steps(put);
     ages(put);
     for subtype in [0, 1, 2, 3, 5, 6, 9, 10, 12] {
         begins(put, subtype);
         adds(put, subtype);
+        pushes(put, subtype);
     }
     broken(put);
     full(put);
@@ -62,6 +64,21 @@ fn after_the_last(put: Put) {
         let body = [make::rib_head(1, 8, 10, 1), make::rib_entry(subtype, 1, &[5]).repeat(2)].concat();
         whole(put, subtype, &body);
         entries(put, subtype, &body);
+    }
+}
+
+/// A cursor at the first entry, in it, at and beyond the end of a body: 8 comes before a subtype that is not carried.
+fn steps(put: Put) {
+    for subtype in [0, 1, 2, 5, 6, 9, 12] {
+        let body = [make::rib_head(1, 8, 10, 1), make::rib_entry(subtype, 1, &[5])].concat();
+        for body in [&body[..], &body[..body.len() - 1], &body[..7], &[]] {
+            let n = body.len();
+            for at in [0, 8, 9, n, n + 1, usize::MAX - 11, usize::MAX] {
+                for left in [0, 1, u16::MAX] {
+                    put(&Question::RibNext { subtype, body, at, left });
+                }
+            }
+        }
     }
 }
 
@@ -110,6 +127,37 @@ fn adds(put: Put, subtype: u16) {
         add(put, &body, length, subtype, 1, &[8, 9]);
         add(put, &body[..n - 1], length, subtype, 0, &[]);
     }
+}
+
+fn push(put: Put, buffer: &[u8], subtype: u16, builder: Builder, path: u32, attributes: &[u8]) {
+    let entry = NewEntry { peer_index: 0xfffe, originated: 0x0102_0304, path, attributes };
+    put(&Question::RibPush { buffer, subtype, builder, entry });
+}
+
+/// Builders that are a body's, and some that are not: each number one more and one less, a head that cannot be read, a count in
+/// the head. The entries are not looked at, so a length inside an entry is taken.
+fn pushes(put: Put, subtype: u16) {
+    let body = [make::rib_head(5, 9, 0x80, 1), make::rib_entry(subtype, 1, &[1, 2, 3])].concat();
+    let (n, size) = (body.len(), make::rib_entry(subtype, 1, &[1, 2]).len());
+    for room in [0, size - 1, size, size + 1] {
+        let buffer = [&body[..], &vec![0xaa; room]].concat();
+        for length in [0, 8, 9, n - 1, n, n + 1, n + room + 1, usize::MAX] {
+            for (count_at, count) in
+                [(7, 1), (6, 1), (8, 1), (2, 0), (7, 0), (7, 2), (7, 65_536), (usize::MAX, 1), (7, u64::MAX)]
+            {
+                push(put, &buffer, subtype, Builder { length, count_at, count }, 0, &[8, 9]);
+            }
+            push(put, &buffer, subtype, Builder { length, count_at: 7, count: 1 }, 1, &[8, 9]);
+        }
+    }
+    let mut wide = [&body[..], &[0xaa; 40]].concat();
+    wide[4] = 129;
+    push(put, &wide, subtype, Builder { length: n, count_at: 22, count: 0 }, 0, &[]);
+    // no head at all: the case of ten zeros
+    push(put, &[0; 10], subtype, Builder { length: 2, count_at: 0, count: 0 }, 0, &[]);
+    let mut full = [make::rib_head(5, 0, 0, 65_535), vec![0xaa; 40]].concat();
+    full[5..7].copy_from_slice(&[255, 255]);
+    push(put, &full, subtype, Builder { length: 7, count_at: 5, count: 65_535 }, 0, &[]);
 }
 
 /// A body that is not whole comes before a value that does not fit, and before the room.

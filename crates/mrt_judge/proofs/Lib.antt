@@ -1,0 +1,2 @@
+-- Candidates: an offset beyond the stream, and one within it.
+pub mod Candidates
