@@ -32,8 +32,8 @@ returns-4 c = both (c .no-place4 .ensures)
     ∙ place-full _ _ (right _ _ (c .before .before .before .before .if1 .left) (c .before .before .before .if2 .left))
     (c .before .before .before .if2 .left) (c .before .before .if3 .left) (c .before .if4 .taken)
 
-cast-t8 : tie.Need-cast-t8
-cast-t8 c = search needs
+cast-t9 : tie.Need-cast-t9
+cast-t9 c = search needs
 
 returns-5 : tie.Need-returns-5
 returns-5 c = place-free _ _ (right _ _ (c .before .before .before .if1 .left) (c .before .before .if2 .left))
@@ -51,5 +51,5 @@ place-new-spec =
     returns-3
     no-place-requires-4
     returns-4
-    cast-t8
+    cast-t9
     returns-5)
