@@ -37,7 +37,9 @@ pub extern "C" fn mrt_rib_first(body: &[u8], subtype: u16, out: &mut [u64]) -> u
     match rib_entries::first_entry(body, subtype) {
         CursorAnswer::Refused(r) => refusal(r),
         CursorAnswer::At(c) => {
-            let v = [c.at as u64, c.left as u64];
+            let at = c.at as u64;
+            let left = c.left as u64;
+            let v = [at, left];
             hand_out(out, &v)
         }
     }

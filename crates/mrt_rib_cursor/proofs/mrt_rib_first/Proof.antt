@@ -19,8 +19,8 @@ refusal-requires c κs = search needs
 enum-known-c : tie.Need-enum-known-c
 enum-known-c c = search needs
 
-cast-t10 : tie.Need-cast-t10
-cast-t10 c = search needs
+cast-left : tie.Need-cast-left
+cast-left c = search needs
 
 slice-aggregate-hand-out : tie.Need-slice-aggregate-hand-out
 slice-aggregate-hand-out c = search needs
@@ -56,7 +56,7 @@ mrt-rib-first-spec =
     enum-known-r
     refusal-requires
     enum-known-c
-    cast-t10
+    cast-left
     slice-aggregate-hand-out
     hand-out-requires
     returns
