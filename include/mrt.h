@@ -228,7 +228,8 @@ uint32_t mrt_open_rib(const uint8_t *body, size_t body_len, uint16_t subtype, ui
 /*
  * Writes an entry where a builder stands, raises the count, and moves the builder, which is lent as the three values of
  * mrt_open_rib. The entries before it are not looked at. Refusals: 8 (fewer than three places, a count above 65,535, a builder
- * beyond `out`, a count that lies beyond its body), 6, 10, 9; each leaves `out` and the builder.
+ * beyond `out`), 6, 7 (in front of it no head can be read, or the count stands elsewhere or is another), 10, 9; each leaves `out`
+ * and the builder.
  */
 uint32_t mrt_push_entry(uint8_t *out, size_t out_len, uint16_t subtype, uint64_t *builder, size_t builder_len, uint16_t peer,
                         uint32_t originated, uint32_t path, const uint8_t *attributes, size_t attributes_len);

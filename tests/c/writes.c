@@ -167,7 +167,7 @@ static void entries_written(void) {
     entry_written(2, 16 + 65536, 8, 0, 65536, 10);
 }
 
-/* Bodies that are not whole, and builders that are none. */
+/* Bodies that are not whole. */
 static void not_whole(void) {
     uint8_t body[24];
     memset(body, 0, sizeof body);
@@ -190,19 +190,51 @@ static void not_whole(void) {
     expect(mrt_open_rib(body, end, 2, out, 2) == 9 && holds(out, 4, opened, 0), "open with two places", 0, 0);
     expect(mrt_open_rib(body, end, 6, out, 4) == 6 && holds(out, 4, opened, 0), "open 6", 0, 0);
     expect(mrt_open_rib(NULL, 0, 2, NULL, 0) == 7, "open nothing", 0, 0);
-    const uint64_t builders[][3] = {{end, 6, 65536}, {end, 6, UINT64_MAX}, {25, 6, 1}, {end, end - 1, 1}, {end, UINT64_MAX, 1},
-                                    {1, 0, 0}, {UINT64_MAX, 6, 1}, {0, 0, 0}};
-    for (size_t i = 0; i < sizeof builders / sizeof *builders; i++) {
-        uint64_t builder[3];
-        memcpy(builder, builders[i], sizeof builder);
-        uint32_t number = mrt_push_entry(body, sizeof body, 2, builder, 3, 0, 0, 0, NULL, 0);
-        expect(number == 8 && same(builder, builders[i], sizeof builder), "no such builder", i, number);
-    }
-    uint64_t builder[3] = {end, 6, 65535};
-    expect(mrt_push_entry(body, sizeof body, 2, builder, 3, 0, 0, 0, NULL, 0) == 10, "the 65,536th entry", 0, 0);
-    expect(mrt_push_entry(body, sizeof body, 2, builder, 2, 0, 0, 0, NULL, 0) == 8, "two places for a builder", 0, 0);
-    expect(mrt_push_entry(NULL, 0, 2, NULL, 0, 0, 0, 0, NULL, 0) == 8, "push with nothing", 0, 0);
     free(out);
+}
+
+/* Places that hold no builder of what stands in the output: each refusal leaves both. */
+static void no_builder(uint8_t *out, size_t n, uint16_t subtype, uint64_t len, uint64_t at, uint64_t count, uint32_t number) {
+    uint8_t *before = copy(out, n);
+    uint64_t builder[3] = {len, at, count};
+    uint32_t got = mrt_push_entry(out, n, subtype, builder, 3, 0, 0, 0, NULL, 0);
+    expect(got == number, "no such builder", got, number);
+    expect(same(out, before, n) && builder[0] == len && builder[1] == at && builder[2] == count, "no builder is left", len, at);
+    free(before);
+}
+
+static void no_builders(void) {
+    uint8_t body[25], zeros[10] = {0};
+    memset(body, 0, sizeof body);
+    const size_t end = with_entry(body, 2, 0, 1);
+    const uint64_t counts[2] = {65536, UINT64_MAX}, lengths[3] = {sizeof body + 1, UINT32_MAX, UINT64_MAX};
+    for (size_t i = 0; i < 2; i++) {
+        no_builder(body, sizeof body, 2, end, 6, counts[i], 8);
+        no_builder(body, sizeof body, 6, 0, 0, counts[i], 8);
+    }
+    for (size_t i = 0; i < 3; i++) {
+        no_builder(body, sizeof body, 2, lengths[i], 6, 1, 8);
+        no_builder(body, sizeof body, 6, lengths[i], 6, 1, 8);
+    }
+    no_builder(body, sizeof body, 6, end, 5, 0, 6);
+    const uint64_t places_of_count[5] = {0, 5, 7, end - 2, UINT64_MAX};
+    for (size_t i = 0; i < 5; i++) {
+        no_builder(body, sizeof body, 2, end, places_of_count[i], 1, 7);
+    }
+    no_builder(body, sizeof body, 2, end, 6, 0, 7);
+    no_builder(body, sizeof body, 2, end, 6, 2, 7);
+    no_builder(body, sizeof body, 2, end, 6, 65535, 7);
+    for (size_t len = 0; len < 8; len++) {
+        no_builder(body, sizeof body, 2, len, 6, 1, 7);
+    }
+    body[4] = 33;
+    no_builder(body, sizeof body, 2, end, 10, 0, 7);
+    no_builder(zeros, sizeof zeros, 2, 2, 0, 0, 7);
+    no_builder(zeros, sizeof zeros, 2, 10, 0, 0, 7);
+    uint64_t builder[3] = {7, 5, 0};
+    expect(mrt_push_entry(zeros, sizeof zeros, 2, builder, 3, 0, 0, 0, NULL, 0) == 9, "a builder of zeros", 0, 0);
+    expect(mrt_push_entry(zeros, sizeof zeros, 2, builder, 2, 0, 0, 0, NULL, 0) == 8, "two places for a builder", 0, 0);
+    expect(mrt_push_entry(NULL, 0, 2, NULL, 0, 0, 0, 0, NULL, 0) == 8, "push with nothing", 0, 0);
 }
 
 /* As many entries as a count can hold, and no more. */
@@ -231,6 +263,7 @@ int main(void) {
     bodies_begun();
     entries_written();
     not_whole();
+    no_builders();
     filled();
     return result();
 }

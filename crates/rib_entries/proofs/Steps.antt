@@ -50,7 +50,8 @@ module _ (s : List ℕ) (t : ℕ) (c : Cursor) where
 
         -- an entry is handed out
         pub next-handed : (a : EntryAnswer) → entryValues a ≡ entryHere (pathSize t) s (c .at) → {e : Entry} → a ≡ entry-answer.Read e
-            → record { number = 0; handed = true; entry = entryValues (entry-answer.Read e); at = e .end; left = c .left - 1 } ≡ nextOf s t c
+            → record { number = 0; handed = true; entry = entryValues (entry-answer.Read e); at = e .end; left = c .left - 1 }
+            ≡ nextOf s t c
         unfolding nextOf
         next-handed a said {e} v =
             let here : entryValues (entry-answer.Read e) ≡ entryHere (pathSize t) s (c .at) = rw v at said in

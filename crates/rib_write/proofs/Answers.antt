@@ -5,21 +5,24 @@ use mathlib.Core.Bool.{Bool, true, false, not, _&&_, _||_, true≢false}
 use mathlib.Core.List.{List}
 use native.Mathlib.Omega.{arith}
 use lib.ListN.{length, take, getD}
-use lib.Dec.{leb, ltb, eqb}
+use lib.Dec.{ltb, eqb}
 use borrow.Author.Tests.{lt-ltb, le-ltb, eq-eqb, ne-eqb, eqb-false, ltb-true, ltb-false}
-use Rattle.answer.specs.Refusal.{numberOf}
+use Rattle.answer.specs.Refusal.{numberOf, outcomeNumber}
 use Rattle.answer.specs.Writing.{refuse}
 use Rattle.answer.specs.declared.Refusal.{Refusal}
+use Rattle.answer.specs.declared.Outcome.{Outcome}
+use Rattle.answer.specs.declared.Outcome.the-variants as outcome
 use Rattle.octets.specs.Octets.{beAt, bytesOf, patch}
-use Rattle.rib_head.specs.Layout.{carried, pathSize, prefixSize}
-use Rattle.rib_head.specs.Head.{bitsOf, countAt, declared}
+use Rattle.rib_head.specs.Layout.{pathSize, prefixSize}
+use Rattle.rib_head.specs.Head.{bitsOf, countAt, declared, checkRib}
 use Rattle.rib_entries.specs.Entry.{cursorValues, afterOf}
 use Rattle.rib_entries.specs.declared.Cursor.{Cursor}
 use Rattle.rib_entries.specs.declared.CursorAnswer.{CursorAnswer}
 use Rattle.rib_entries.specs.declared.CursorAnswer.the-variants as cursor-answer
 use Rattle.answer.proofs.Refusals.{number-refusal}
 use Rattle.rib_write.specs.Layout.{entryOctets}
-use Rattle.rib_write.specs.Add.{unopened, openValues, openOf, unfit, added, addEntry, unpushed, pushEntry}
+use Rattle.rib_write.specs.Add.{unopened, openValues, openOf, unfit, added, addEntry}
+use Rattle.rib_write.specs.Add.{Pushing, unpushed, standing, pushAfter, pushEntry}
 use Rattle.rib_write.specs.declared.NewEntry.{NewEntry}
 use Rattle.rib_write.specs.declared.Builder.{Builder}
 use Rattle.rib_write.specs.declared.BuilderAnswer.{BuilderAnswer}
@@ -86,63 +89,81 @@ count-room {count} l n = by-test (ltb count 65535) refl
     by-test true e = let h = ltb-true count 65535 e in omega arith
     by-test false e = let h = ltb-false count 65535 e in absurd (n (omega arith))
 
+-- a builder of a body, by what the head's check has answered
+module _ (s : List ℕ) (t : ℕ) (b : Builder) where
+  pub standing-unread : (r : Refusal) → numberOf r ≡ checkRib s t → numberOf r ≡ standing s t b
+  unfolding standing
+  standing-unread r e = rw (← e, number-refusal r)
+
+  module _ (z : checkRib s t ≡ 0) {o p : ℕ} (d : o ≡ getD s 4 0) (e : p ≡ prefixSize o) where
+    place : 5 + p ≡ countAt s
+    unfolding countAt bitsOf
+    place = rw (e, d)
+
+    -- the count stands elsewhere
+    pub standing-apart : (b .at ≡ 5 + p → ⊥) → 7 ≡ standing s t b
+    unfolding standing
+    standing-apart n = rw (eq-eqb (checkRib s t) 0 z, ne-eqb (b .at) (countAt s) (λ q. n (q ∙ sym place)))
+
+    module _ (q : b .at ≡ 5 + p) {k : ℕ} (f : k ≡ beAt s (5 + p) 2) where
+      count : k ≡ declared s
+      unfolding declared
+      count = f ∙ ap (λ (x : ℕ). beAt s x 2) place
+
+      -- it is another, or the same
+      pub standing-another : (b .count ≡ k → ⊥) → 7 ≡ standing s t b
+      unfolding standing
+      standing-another n =
+          rw (eq-eqb (checkRib s t) 0 z, eq-eqb (b .at) (countAt s) (q ∙ place), ne-eqb (b .count) (declared s) (λ m. n (m ∙ sym count)))
+
+      pub standing-same : b .count ≡ k → 0 ≡ standing s t b
+      unfolding standing
+      standing-same m = rw (eq-eqb (checkRib s t) 0 z, eq-eqb (b .at) (countAt s) (q ∙ place), eq-eqb (b .count) (declared s) (m ∙ count))
+
 -- pushing an entry
 module _ (s : List ℕ) (t : ℕ) (b : Builder) (e : NewEntry) (l : List ℕ) where
-  -- a builder beyond the output, and a count beyond its body
+  -- a length beyond the output
   pub push-beyond : length s < b .len → unpushed 8 s ≡ pushEntry s t b e l
   unfolding pushEntry
   push-beyond h = rw (lt-ltb (length s) (b .len) h)
 
-  module _ (h : b .len ≤ length s) {w : Bool} (i : w ≡ leb (b .at + 2) (b .len)) where
-    pub push-uncounted : not w ≡ true → unpushed 8 s ≡ pushEntry s t b e l
+  -- by what the check of the builder has answered
+  module _ (h : b .len ≤ length s) (o : Outcome) (said : outcomeNumber o ≡ standing (take (b .len) s) t b) where
+    pub push-unmet : {r : Refusal} → o ≡ outcome.Refused r → unpushed (numberOf r) s ≡ pushEntry s t b e l
     unfolding pushEntry
-    push-uncounted f = rw (le-ltb (length s) (b .len) h, ← i, f)
+    push-unmet {r} v = rw (le-ltb (length s) (b .len) h, ← said, v, number-refusal r)
 
-    module _ (f : not w ≡ false) where
-      -- another subtype
-      pub push-other : carried t ≡ false → unpushed 6 s ≡ pushEntry s t b e l
-      unfolding pushEntry
-      push-other c = rw (le-ltb (length s) (b .len) h, ← i, f, c)
+    pub push-met : o ≡ outcome.Accepted → {x : Pushing} → x ≡ pushAfter s t b e l → x ≡ pushEntry s t b e l
+    unfolding pushEntry
+    push-met v q = rw (q, le-ltb (length s) (b .len) h, ← said, v)
 
-      module _ (c : carried t ≡ true) {u : Bool} (g : u ≡ unfit (b .count) t (e .path) (length l)) where
-        pub push-unfit : u ≡ true → unpushed 10 s ≡ pushEntry s t b e l
-        unfolding pushEntry
-        push-unfit k = rw (le-ltb (length s) (b .len) h, ← i, f, c, ← g, k)
+  -- after the body, by the tests of the values and of the room
+  module _ {u : Bool} (g : u ≡ unfit (b .count) t (e .path) (length l)) where
+    pub after-unfit : u ≡ true → unpushed 10 s ≡ pushAfter s t b e l
+    unfolding pushAfter
+    after-unfit k = rw (← g, k)
 
-        module _ (k : u ≡ false) {n : ℕ} (m : n ≡ pathSize t) where
-          size : length (entryOctets (pathSize t) e l) ≡ 8 + n + length l
-          size = length-entry (pathSize t) e l ∙ ap (λ (k : ℕ). 8 + k + length l) (sym m)
+    module _ (k : u ≡ false) {n : ℕ} (m : n ≡ pathSize t) where
+      size : length (entryOctets (pathSize t) e l) ≡ 8 + n + length l
+      size = length-entry (pathSize t) e l ∙ ap (λ (k : ℕ). 8 + k + length l) (sym m)
 
-          pub push-full : length s - b .len < 8 + n + length l → unpushed 9 s ≡ pushEntry s t b e l
-          unfolding pushEntry
-          push-full r =
-              rw (
-                le-ltb (length s) (b .len) h,
-                ← i,
-                f,
-                c,
-                ← g,
-                k,
-                lt-ltb (length s - b .len) (length (entryOctets (pathSize t) e l)) (omega (arith, size)),
-              )
+      pub after-full : length s - b .len < 8 + n + length l → unpushed 9 s ≡ pushAfter s t b e l
+      unfolding pushAfter
+      after-full r = rw (← g, k, lt-ltb (length s - b .len) (length (entryOctets (pathSize t) e l)) (omega (arith, size)))
 
-          pub push-done : 8 + n + length l ≤ length s - b .len → {x y : List ℕ}
-              → x ≡ patch s (b .len) (entryOctets (pathSize t) e l) → y ≡ patch x (b .at) (bytesOf 2 (b .count + 1))
-              → record { number = 0; len = b .len + (8 + n + length l); at = b .at; count = b .count + 1; output = y } ≡ pushEntry s t b e l
-          unfolding pushEntry added
-          push-done r p q =
-              rw (
-                le-ltb (length s) (b .len) h,
-                ← i,
-                f,
-                c,
-                ← g,
-                k,
-                le-ltb (length s - b .len) (length (entryOctets (pathSize t) e l)) (omega (arith, size)),
-                q,
-                p,
-                ← size,
-              )
+      pub after-done : 8 + n + length l ≤ length s - b .len → {x y : List ℕ}
+          → x ≡ patch s (b .len) (entryOctets (pathSize t) e l) → y ≡ patch x (b .at) (bytesOf 2 (b .count + 1))
+          → record { number = 0; len = b .len + (8 + n + length l); at = b .at; count = b .count + 1; output = y } ≡ pushAfter s t b e l
+      unfolding pushAfter added
+      after-done r p q =
+          rw (
+            ← g,
+            k,
+            le-ltb (length s - b .len) (length (entryOctets (pathSize t) e l)) (omega (arith, size)),
+            q,
+            p,
+            ← size,
+          )
 
 -- adding an entry
 module _ (s : List ℕ) (len t : ℕ) (e : NewEntry) (l : List ℕ) where

@@ -7,7 +7,7 @@ use native.Mathlib.Omega.{arith}
 use lib.ListN.{length, take}
 use lib.Seq.{length-take-le}
 use lib.Dec.{ltb, eqb}
-use borrow.Author.Tests.{eqb-true, eqb-false, le-ltb, le-leb, eq-eqb}
+use borrow.Author.Tests.{eqb-true, eqb-false, le-ltb, eq-eqb}
 use Rattle.answer.specs.Refusal.{numberOf}
 use Rattle.answer.specs.Writing.{refuse}
 use Rattle.answer.specs.declared.Refusal.{Refusal}
@@ -15,10 +15,9 @@ use Rattle.rib_head.specs.Layout.{pathSize}
 use Rattle.rib_head.specs.Head.{countAt, declared, entriesAt, checkRib}
 use Rattle.rib_entries.specs.Entry.{passed, placed, afterOf}
 use Rattle.rib_entries.specs.declared.Cursor.{Cursor}
-use Rattle.rib_head.proofs.Heads.{met-carried, met-within}
 use Rattle.rib_write.specs.Layout.{entryOctets}
-use Rattle.rib_write.specs.Add.{Opening, unopened, openValues, openOf, unfit, added, addEntry, Pushing, unpushed, pushed, pushEntry}
-use Rattle.rib_write.specs.Add.{lengthOnly}
+use Rattle.rib_write.specs.Add.{Opening, unopened, openValues, openOf, unfit, added, addEntry, Pushing, unpushed, pushed}
+use Rattle.rib_write.specs.Add.{standing, pushAfter, pushEntry, lengthOnly}
 use Rattle.rib_write.specs.declared.NewEntry.{NewEntry}
 use Rattle.rib_write.specs.declared.Builder.{Builder}
 use Rattle.rib_write.specs.declared.BuilderAnswer.{BuilderAnswer}
@@ -58,9 +57,11 @@ module _ (s : List ℕ) (t : ℕ) (w : Whole s t) where
         eq-eqb (passed (pathSize t) s (entriesAt s) (declared s) .at) (length s) (w .at),
       )
 
-  pub count-inside : countAt s + 2 ≤ length s
-  unfolding countAt entriesAt
-  count-inside = let m = met-within s t (w .check) in omega arith
+  -- and it is one of that body
+  pub standing-whole : (n : ℕ) → standing s t (record { len = n; at = countAt s; count = declared s }) ≡ 0
+  unfolding standing
+  standing-whole n =
+      rw (eq-eqb (checkRib s t) 0 (w .check), eq-eqb (countAt s) (countAt s) refl, eq-eqb (declared s) (declared s) refl)
 
 -- a push that goes through two tests, as a writer's answer
 length-only : (s : List ℕ) (u v : Bool) (x : Pushing)
@@ -71,39 +72,39 @@ length-only s false false x = refl
 
 -- adding to a whole body is pushing where its builder stands
 module _ (s : List ℕ) (len t : ℕ) (h : len ≤ length s) where
-  pub add-of-push : Whole (take len s) t → (e : NewEntry) (l : List ℕ)
-      → lengthOnly (pushEntry s t (
-      record {
-        len = len;
-        at = countAt (take len s);
-        count = declared (take len s);
-      }) e l) ≡ addEntry s len t e l
-  unfolding addEntry pushEntry
-  add-of-push w e l =
-      let b : List ℕ = take len s in
-      let x : List ℕ = entryOctets (pathSize t) e l in
-      let k : length b ≡ len = length-take-le len s h in
-      let i : countAt b + 2 ≤ len = let m = count-inside b t w in omega arith in
-      rw (le-ltb (length s) len h, le-leb (countAt b + 2) len i, met-carried b t (w .check), open-whole b t w)
-      (length-only s (unfit (declared b) t (e .path) (length l)) (ltb (length s - len) (length x))
-      (record {
-        number = 0;
-        len = len + length x;
-        at = countAt b;
-        count = declared b + 1;
-        output = added s len x (countAt b) (declared b + 1);
-      }))
+  -- that builder
+  abbrev end-of : Builder
+  end-of = record { len = len; at = countAt (take len s); count = declared (take len s) }
+
+  module _ (w : Whole (take len s) t) (e : NewEntry) (l : List ℕ) where
+    add-of-after : lengthOnly (pushAfter s t end-of e l) ≡ addEntry s len t e l
+    unfolding addEntry pushAfter
+    add-of-after =
+        let b : List ℕ = take len s in
+        let x : List ℕ = entryOctets (pathSize t) e l in
+        rw (le-ltb (length s) len h, open-whole b t w)
+        (length-only s (unfit (declared b) t (e .path) (length l)) (ltb (length s - len) (length x))
+        (record {
+          number = 0;
+          len = len + length x;
+          at = countAt b;
+          count = declared b + 1;
+          output = added s len x (countAt b) (declared b + 1);
+        }))
+
+    pub add-of-push : lengthOnly (pushEntry s t end-of e l) ≡ addEntry s len t e l
+    unfolding pushEntry
+    add-of-push = rw (le-ltb (length s) len h, standing-whole (take len s) t w len) add-of-after
 
   -- the way of the code: a body is opened, and then the entry is pushed
-  module _ (a : BuilderAnswer) (said : openValues a ≡ openOf (take len s) t) {b : Builder} (v : a ≡ Open b) (e : NewEntry)
-      (l : List ℕ) where
+  module _ (a : BuilderAnswer) (said : openValues a ≡ openOf (take len s) t) {b : Builder} (v : a ≡ Open b) where
     opening : record { number = 0; len = b .len; at = b .at; count = b .count } ≡ openOf (take len s) t
     opening = rw v at said
 
     whole : Whole (take len s) t
     whole = whole-opened (take len s) t (ap (λ (x : Opening). x .number) (sym opening))
 
-    builder : b ≡ record { len = len; at = countAt (take len s); count = declared (take len s) }
+    builder : b ≡ end-of
     builder =
         let o = opening ∙ open-whole (take len s) t whole in
         let p : b .len ≡ len = ap (λ (x : Opening). x .len) o ∙ length-take-le len s h in
@@ -111,9 +112,12 @@ module _ (s : List ℕ) (len t : ℕ) (h : len ≤ length s) where
         let r : b .count ≡ declared (take len s) = ap (λ (x : Opening). x .count) o in
         rw (p, q, r) refl
 
-    module _ (p : BuilderAnswer) (u : List ℕ) (does : pushed p u ≡ pushEntry s t b e l) where
-      pub add-pushed : lengthOnly (pushed p u) ≡ addEntry s len t e l
-      add-pushed = ap lengthOnly does ∙ rw builder (add-of-push whole e l)
+    pub builder-within : b .len ≤ length s
+    builder-within = let p : b .len ≡ len = ap (λ (x : Builder). x .len) builder in omega arith
+
+    module _ (e : NewEntry) (l : List ℕ) (p : BuilderAnswer) (u : List ℕ) (does : pushed p u ≡ pushAfter s t b e l) where
+      add-pushed : lengthOnly (pushed p u) ≡ addEntry s len t e l
+      add-pushed = ap lengthOnly does ∙ rw builder (add-of-after whole e l)
 
       pub add-refused : {r : Refusal} → p ≡ Refused r → refuse (numberOf r) u ≡ addEntry s len t e l
       add-refused q = rw q at add-pushed

@@ -5,12 +5,12 @@ use Prim.Native.Nat.{ℕ, _+_, _-_}
 use mathlib.Core.List.{List}
 use mathlib.Core.Bool.{Bool, cond, not, _&&_, _||_}
 use lib.ListN.{length, take}
-use lib.Dec.{leb, ltb, eqb}
+use lib.Dec.{ltb, eqb}
 use Rattle.answer.specs.Refusal.{numberOf}
 use Rattle.answer.specs.Writing.{Writing, refuse}
 use Rattle.octets.specs.Octets.{bytesOf, patch}
-use Rattle.rib_head.specs.Layout.{carried, pathSize}
-use Rattle.rib_head.specs.Head.{countAt, declared}
+use Rattle.rib_head.specs.Layout.{pathSize}
+use Rattle.rib_head.specs.Head.{countAt, declared, checkRib}
 use Rattle.rib_entries.specs.Entry.{afterOf}
 use Rattle.rib_write.specs.Layout.{entryOctets}
 use Rattle.rib_write.specs.declared.NewEntry.{NewEntry}
@@ -82,12 +82,16 @@ abbrev pub pushed : BuilderAnswer → List ℕ → Pushing
 pushed (Open b) t = record { number = 0; len = b .len; at = b .at; count = b .count; output = t }
 pushed (Refused r) t = unpushed (numberOf r) t
 
--- the entry e where the builder b stands in the output s: 8 for a builder beyond the output or a count beyond its body, then 6, 10 and 9
-unfoldable pub pushEntry : List ℕ → ℕ → Builder → NewEntry → List ℕ → Pushing
-pushEntry s t b e attributes =
-    cond (ltb (length s) (b .len) || not (leb (b .at + 2) (b .len))) (unpushed 8 s)
-    (cond (carried t)
-    (cond (unfit (b .count) t (e .path) (length attributes)) (unpushed 10 s)
+-- 0 where the builder b is one of the body s, as far as its head tells: the refusal of the head, then 7 where the count stands
+-- elsewhere or is another
+unfoldable pub standing : List ℕ → ℕ → Builder → ℕ
+standing s t b =
+    cond (eqb (checkRib s t) 0) (cond (eqb (b .at) (countAt s) && eqb (b .count) (declared s)) 0 7) (checkRib s t)
+
+-- the entry e after the first b .len octets of the output s: 10, then 9
+unfoldable pub pushAfter : List ℕ → ℕ → Builder → NewEntry → List ℕ → Pushing
+pushAfter s t b e attributes =
+    cond (unfit (b .count) t (e .path) (length attributes)) (unpushed 10 s)
     (cond (ltb (length s - b .len) (length (entryOctets (pathSize t) e attributes))) (unpushed 9 s)
     (record {
       number = 0;
@@ -95,8 +99,14 @@ pushEntry s t b e attributes =
       at = b .at;
       count = b .count + 1;
       output = added s (b .len) (entryOctets (pathSize t) e attributes) (b .at) (b .count + 1);
-    })))
-    (unpushed 6 s))
+    }))
+
+-- the entry e where the builder b stands in the output s: 8 for a length beyond the output, 6, 7 for no builder of what stands
+-- there, then 10 and 9
+unfoldable pub pushEntry : List ℕ → ℕ → Builder → NewEntry → List ℕ → Pushing
+pushEntry s t b e attributes =
+    cond (ltb (length s) (b .len)) (unpushed 8 s)
+    (cond (eqb (standing (take (b .len) s) t b) 0) (pushAfter s t b e attributes) (unpushed (standing (take (b .len) s) t b) s))
 
 -- a push as a writer's answer: the body's length alone
 abbrev pub lengthOnly : Pushing → Writing

@@ -2,15 +2,16 @@
 ghost use mathlib.Core.Path.{_≡_};
 ghost use Prim.Native.Nat.{_+_, _≤_};
 ghost use lib.ListN.{length};
-ghost use lib.Dec.{leb};
+ghost use Rattle.answer.specs.Refusal.{outcomeNumber};
 ghost use Rattle.answer.specs.Writing.{wrote};
 ghost use Rattle.octets.specs.Octets.{patch, bytesOf};
 ghost use Rattle.rib_head.specs.Layout.{pathSize};
 ghost use Rattle.rib_write.specs.Layout.{entryOctets};
-ghost use Rattle.rib_write.specs.Add.{openValues, openOf, unfit, pushed, pushEntry, addEntry};
+ghost use Rattle.rib_write.specs.Add.{openValues, openOf, unfit, pushed, standing, pushAfter, pushEntry, addEntry};
 use crate::Builder;
 use crate::BuilderAnswer;
 use crate::NewEntry;
+use answer::Outcome;
 use answer::Refusal;
 use answer::Written;
 use rib_entries::CursorAnswer;
@@ -30,7 +31,7 @@ pub fn add_entry(
     }
     match open_rib(&out[..len], subtype) {
         BuilderAnswer::Refused(r) => Written::Refused(r),
-        BuilderAnswer::Open(b) => match push_entry(out, subtype, b, e, attributes) {
+        BuilderAnswer::Open(b) => match push_after(out, subtype, b, e, attributes) {
             BuilderAnswer::Refused(r) => Written::Refused(r),
             BuilderAnswer::Open(next) => Written::Octets(next.len),
         },
@@ -71,22 +72,52 @@ pub fn push_entry(
 ) -> BuilderAnswer
     ensures answer { λ r. ⌜ pushed r (now (out .exit)) ≡ pushEntry (now (out .entry)) subtype b e (now (attributes .entry)) ⌝ }
 {
+    if out.len() < b.len {
+        return BuilderAnswer::Refused(Refusal::Beyond);
+    }
+    match check_builder(&out[..b.len], subtype, b) {
+        Outcome::Refused(r) => BuilderAnswer::Refused(r),
+        Outcome::Accepted => push_after(out, subtype, b, e, attributes),
+    }
+}
+
+// Whether a builder is one of a body: the head can be read, and its count is where the builder has it, and the same.
+fn check_builder(body: &[u8], subtype: u16, b: Builder) -> Outcome
+    ensures { λ r. ⌜ outcomeNumber r ≡ standing (now (body .entry)) subtype b ⌝ }
+{
+    match rib_head::check_rib(body, subtype) {
+        Outcome::Refused(r) => Outcome::Refused(r),
+        Outcome::Accepted => {
+            let at = 5 + rib_head::prefix_size(octets::octet(body, 4));
+            if b.at != at {
+                return Outcome::Refused(Refusal::BodyNotMet);
+            }
+            if b.count != octets::be16(body, at) {
+                return Outcome::Refused(Refusal::BodyNotMet);
+            }
+            Outcome::Accepted
+        }
+    }
+}
+
+// One more entry after the octets of a builder's body.
+fn push_after(
+    out: &mut [u8],
+    subtype: u16,
+    b: Builder,
+    e: NewEntry,
+    attributes: &[u8],
+) -> BuilderAnswer
+    requires { ⌜ b .len ≤ length (now out) ⌝ }
+    ensures { λ r. ⌜ pushed r (now (out .exit)) ≡ pushAfter (now (out .entry)) subtype b e (now (attributes .entry)) ⌝ }
+{
     let n = out.len();
     let m = attributes.len();
     let len = b.len;
-    if n < len {
-        return BuilderAnswer::Refused(Refusal::Beyond);
-    }
-    if !copies::has_room(len, b.at, 2) {
-        return BuilderAnswer::Refused(Refusal::Beyond);
-    }
-    let l = rib_head::layout_of(subtype);
-    if !l.carried {
-        return BuilderAnswer::Refused(Refusal::OtherSubtype);
-    }
     if is_unfit(b.count, subtype, e.path, m) {
         return BuilderAnswer::Refused(Refusal::TooLarge);
     }
+    let l = rib_head::layout_of(subtype);
     let size = 8 + l.path + m;
     if n - len < size {
         return BuilderAnswer::Refused(Refusal::NoRoom);

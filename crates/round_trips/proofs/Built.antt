@@ -5,18 +5,20 @@ use mathlib.Core.Bool.{true, cond}
 use mathlib.Core.List.{List, [], _∷_, _++_, append-assoc, append-nil}
 use native.Mathlib.Omega.{arith}
 use lib.ListN.{length, take, drop, length-append, take-append-drop}
-use lib.Seq.{length-take-le}
+use lib.Seq.{length-take-le, take-append-seam}
 use lib.Dec.{ltb}
 use borrow.Author.Tests.{le-ltb, le-leb, eq-eqb, ltb-false}
 use Rattle.octets.specs.Octets.{bytesOf, patch}
 use Rattle.octets.proofs.Numbers.{length-bytes}
 use Rattle.rib_head.specs.Layout.{carried, mostBits, pathSize, prefixSize}
-use Rattle.rib_head.specs.Head.{bitsOf, declared, entriesAt, readable, checkRib}
+use Rattle.rib_head.specs.Head.{bitsOf, countAt, declared, entriesAt, readable, checkRib}
 use Rattle.rib_entries.specs.Entry.{passed, afterOf}
+use Rattle.rib_entries.specs.declared.Cursor.{Cursor}
 use Rattle.rib_entries.proofs.Steps.{placed-met}
+use Rattle.rib_write.proofs.Opened.{Whole, standing-whole}
 use Rattle.round_trips.specs.Run.{Given, givenOctets, entriesOctets}
 use Rattle.rib_begin.specs.Layout.{headWith}
-use Rattle.rib_write.specs.Add.{openOf, unfit, added, Pushing, unpushed, pushEntry}
+use Rattle.rib_write.specs.Add.{openOf, unfit, added, Pushing, unpushed, standing, pushAfter, pushEntry}
 use Rattle.rib_write.specs.declared.Builder.{Builder}
 use Rattle.octets.proofs.Stores.{patch-between}
 use Rattle.round_trips.proofs.Tests.{cond-last}
@@ -88,6 +90,13 @@ module _ (t : ℕ) (h : Front) (w : Sound t h) (gs : List Given) (k : Fitting t 
         left = 0;
       }) (sym (body-split t h gs)))
 
+  -- it has every declared entry and nothing after them
+  pub whole-built : Whole (body t h gs) t
+  whole-built =
+      let s : List ℕ = body t h gs in
+      let e : passed (pathSize t) s (entriesAt s) (declared s) ≡ record { at = length s; left = 0 } = rw declared-built passed-all in
+      record { check = check-built; left = ap (λ (c : Cursor). c .left) e; at = ap (λ (c : Cursor). c .at) e }
+
   -- it can be opened for one entry more
   pub open-built : openOf (body t h gs) t
       ≡ record { number = 0; len = length (body t h gs); at = 5 + prefixSize (h .bits); count = length gs }
@@ -143,23 +152,31 @@ module _ (t : ℕ) (h : Front) (full : length (h .octets) ≡ prefixSize (h .bit
       ap length (entries-snoc p gs g) ∙ length-append (entriesOctets p gs) (givenOctets p g) in
       omega (arith, length-body gs, length-body (gs ++ (g ∷ [])))
 
-  -- the count lies within the body
-  pub count-within : (gs : List Given) → 5 + prefixSize (h .bits) + 2 ≤ length (body t h gs)
-  count-within gs = omega (arith, length-body gs)
+-- what pushing an entry answers
+module _ (t : ℕ) (h : Front) (w : Sound t h) (gs : List Given) (k : Fitting t gs) where
+  standing-built : standing (body t h gs) t (builder t h gs) ≡ 0
+  standing-built =
+      let s : List ℕ = body t h gs in
+      let c : countAt s ≡ 5 + prefixSize (h .bits) =
+      count-at h (length gs) (entriesOctets (pathSize t) gs) (w .full) s (body-split t h gs) in
+      rw (c, declared-built t h w gs k) at (standing-whole s t (whole-built t h w gs k) (length s))
 
-  -- what pushing an entry answers
-  pub push-built : carried t ≡ true → (gs : List Given) (r : List ℕ) (g : Given)
+  pub push-built : (r : List ℕ) (g : Given)
       → pushEntry (body t h gs ++ r) t (builder t h gs) (g .entry) (g .attributes)
       ≡ cond (unfit (length gs) t (g .entry .path) (length (g .attributes))) (unpushed 10 (body t h gs ++ r))
       (cond (ltb (length r) (length (givenOctets (pathSize t) g))) (unpushed 9 (body t h gs ++ r))
       (state t h (gs ++ (g ∷ [])) (drop (length (givenOctets (pathSize t) g)) r)))
-  unfolding pushEntry state
-  push-built c gs r g =
+  unfolding pushEntry pushAfter state
+  push-built r g =
       let s : List ℕ = body t h gs in
       let x : List ℕ = givenOctets (pathSize t) g in
       let l : length (s ++ r) ≡ length s + length r = length-append s r in
       let m : length (s ++ r) - length s ≡ length r = omega arith in
-      rw (le-ltb (length (s ++ r)) (length s) (omega arith), le-leb (5 + prefixSize (h .bits) + 2) (length s) (count-within gs), c, m)
+      rw (le-ltb (length (s ++ r)) (length s) (omega arith), take-append-seam s r, standing-built, m)
       (ap (λ (w : Pushing). cond (unfit (length gs) t (g .entry .path) (length (g .attributes))) (unpushed 10 (s ++ r)) w)
       (cond-last (ltb (length r) (length x)) (unpushed 9 (s ++ r))
-      (λ e. rw (added-built gs r g (ltb-false (length r) (length x) e), length-body-snoc gs g, length-append gs (g ∷ [])))))
+      (λ e. rw (
+        added-built t h (w .full) gs r g (ltb-false (length r) (length x) e),
+        length-body-snoc t h (w .full) gs g,
+        length-append gs (g ∷ []),
+      ))))

@@ -235,7 +235,7 @@ module _ (s out : List ℕ) (t : ℕ) (o : Octets s) (z : openOf s t .number ≡
       let f : length (body t h l) ≡ length s = length-body t h (sound .full) l ∙ e in
       rw (begun out t (beAt s 0 4) (bitsOf s) (prefixAt (bitsOf s) s) begins)
       (run t h sound l [] r none (typed-kept t l (k .kept)) .same
-      ∙ ap lengthOnly (pushes-fitting t h sound l [] r (k .kept) (omega arith) (omega arith))
+      ∙ ap lengthOnly (pushes-fitting t h sound l [] r tt (k .kept) (omega arith) (omega arith))
       ∙ rw (drop-drop (length (entriesOctets (pathSize t) l)) n out, e, f, body-tidied s t o whole))
 
   pub build-of-read :

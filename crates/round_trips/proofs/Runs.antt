@@ -11,18 +11,16 @@ use lib.Dec.{ltb, eqb, eqb·suc-zero}
 use borrow.Author.Tests.{le-ltb, ltb-false, eqb-true, eqb-false, eq-eqb, ne-eqb}
 use Rattle.answer.specs.Writing.{Writing, refuse}
 use Rattle.rib_head.specs.Layout.{pathSize, prefixSize}
-use Rattle.rib_head.specs.Head.{countAt, declared, entriesAt}
-use Rattle.rib_entries.specs.Entry.{passed}
-use Rattle.rib_entries.specs.declared.Cursor.{Cursor}
+use Rattle.rib_head.specs.Head.{countAt}
 use Rattle.rib_head.proofs.Layouts.{path-size, path-size-le}
 use Rattle.round_trips.specs.Run.{Given, givenOctets, entriesOctets}
 use Rattle.rib_write.specs.Add.{unfit, addEntry, Pushing, unpushed}
 use Rattle.round_trips.specs.Run.{adds, pushes}
 use Rattle.rib_write.specs.Add.{lengthOnly}
 use Rattle.rib_write.proofs.Answers.{count-room}
-use Rattle.rib_write.proofs.Opened.{Whole, add-of-push}
+use Rattle.rib_write.proofs.Opened.{add-of-push}
 use Rattle.round_trips.proofs.Seams.{Kept, AllKept, Front, count-at}
-use Rattle.round_trips.proofs.Built.{body, body-split, state, Sound, Fitting, check-built, declared-built, passed-all, push-built}
+use Rattle.round_trips.proofs.Built.{body, body-split, state, Sound, Fitting, declared-built, whole-built, push-built}
 
 -- an entry's fields are of their types: 16, 32 and 32 bits
 pub record Typed (g : Given) : Type 0 where
@@ -134,17 +132,10 @@ module _ (t : ℕ) (h : Front) (w : Sound t h) where
   pub roomless : Given → List ℕ → Bool
   roomless g r = ltb (length r) (length (givenOctets (pathSize t) g))
 
-  push-step : (gs done : List Given) (g : Given) (r : List ℕ)
+  push-step : (gs done : List Given) (g : Given) (r : List ℕ) → Fitting t done
       → pushes t (state t h done r) (g ∷ gs) ≡ pushes t (next done g r (unfitting done g) (roomless g r)) gs
   unfolding pushes state next unfitting roomless
-  push-step gs done g r = ap (λ (x : Pushing). pushes t x gs) (push-built t h (w .full) (w .carries) done r g)
-
-  whole-built : (done : List Given) → Fitting t done → Whole (body t h done) t
-  whole-built done k =
-      let s : List ℕ = body t h done in
-      let e : passed (pathSize t) s (entriesAt s) (declared s) ≡ record { at = length s; left = 0 } =
-      rw (declared-built t h w done k) (passed-all t h w done k) in
-      record { check = check-built t h w done k; left = ap (λ (c : Cursor). c .left) e; at = ap (λ (c : Cursor). c .at) e }
+  push-step gs done g r k = ap (λ (x : Pushing). pushes t x gs) (push-built t h w done k r g)
 
   add-step : (gs done : List Given) (g : Given) (r : List ℕ) → Fitting t done
       → adds t (lengthOnly (state t h done r)) (g ∷ gs) ≡ adds t (lengthOnly (next done g r (unfitting done g) (roomless g r))) gs
@@ -154,8 +145,8 @@ module _ (t : ℕ) (h : Front) (w : Sound t h) where
       let l : length s ≤ length (s ++ r) = rw (length-append s r) (omega arith) in
       let c : countAt s ≡ 5 + prefixSize (h .bits) =
       count-at h (length done) (entriesOctets (pathSize t) done) (w .full) s (body-split t h done) in
-      let a = add-of-push (s ++ r) (length s) t l (rw (take-append-seam s r) (whole-built done k)) (g .entry) (g .attributes) in
-      let b = rw (take-append-seam s r, c, declared-built t h w done k, push-built t h (w .full) (w .carries) done r g) at a in
+      let a = add-of-push (s ++ r) (length s) t l (rw (take-append-seam s r) (whole-built t h w done k)) (g .entry) (g .attributes) in
+      let b = rw (take-append-seam s r, c, declared-built t h w done k, push-built t h w done k r g) at a in
       ap (λ (x : Writing). adds t x gs) (sym b)
 
   -- x is what a builder has left that has written the body with the entries gs
@@ -180,7 +171,7 @@ module _ (t : ℕ) (h : Front) (w : Sound t h) where
   unfolding adds pushes next
   run [] done r k y = record { same = refl; ran = λ z. rw append-nil (record { rest = r; fitting = k; all = refl }) }
   run (g ∷ gs) done r k y =
-      by-tests (unfitting done g) (roomless g r) refl (push-step gs done g r) (add-step gs done g r k)
+      by-tests (unfitting done g) (roomless g r) refl (push-step gs done g r k) (add-step gs done g r k)
       (λ x. run gs (done ++ (g ∷ [])) (drop (length (givenOctets (pathSize t) g)) r) x (y .1))
     where
       by-tests : (u v : Bool) → unfitting done g ≡ u
@@ -201,19 +192,20 @@ module _ (t : ℕ) (h : Front) (w : Sound t h) where
           record { same = a ∙ x .same ∙ sym (ap lengthOnly p); ran = λ z. rw (p, ← append-assoc done (g ∷ []) gs) (x .ran (rw p at z)) }
 
   -- a run that fits is accepted
-  pub pushes-fitting : (gs done : List Given) (r : List ℕ) → AllKept (pathSize t) gs → length done + length gs < 65536
+  pub pushes-fitting : (gs done : List Given) (r : List ℕ) → AllKept (pathSize t) done → AllKept (pathSize t) gs
+      → length done + length gs < 65536
       → length (entriesOctets (pathSize t) gs) ≤ length r
       → pushes t (state t h done r) gs ≡ state t h (done ++ gs) (drop (length (entriesOctets (pathSize t) gs)) r)
   unfolding pushes entriesOctets next unfitting roomless
-  pushes-fitting [] done r y n b = rw append-nil refl
-  pushes-fitting (g ∷ gs) done r y n b =
+  pushes-fitting [] done r k y n b = rw append-nil refl
+  pushes-fitting (g ∷ gs) done r k y n b =
       let p : ℕ = pathSize t in
       let x : List ℕ = givenOctets p g in
       let l : length (x ++ entriesOctets p gs) ≡ length x + length (entriesOctets p gs) = length-append x (entriesOctets p gs) in
       let a : length (done ++ (g ∷ [])) ≡ length done + 1 = length-append done (g ∷ []) in
       let m : length (drop (length x) r) ≡ length r - length x = length-drop (length x) r in
-      let i = pushes-fitting gs (done ++ (g ∷ [])) (drop (length x) r) (y .1) (omega arith) (omega arith) in
-      push-step gs done g r
+      let i = pushes-fitting gs (done ++ (g ∷ [])) (drop (length x) r) (kept-snoc p done g k (y .0)) (y .1) (omega arith) (omega arith) in
+      push-step gs done g r (record { kept = k; count = omega arith })
       ∙ rw (
         fit-of-kept (length done) t g (omega arith) (y .0),
         le-ltb (length r) (length x) (omega arith),
