@@ -5,7 +5,7 @@ use mathlib.Core.List.{List, [], _++_, append-assoc, append-nil}
 use native.Mathlib.Nat.{add-zero, le-of-eq}
 use native.Mathlib.Omega.{arith}
 use lib.ListN.{length, take, drop, length-take, length-drop, take-append-drop, drop-of-length-le, replicate}
-use lib.Seq.{take-all, take-nil, length-take-le, take-add, drop-append-le, drop-drop}
+use lib.Seq.{take-all, length-take-le, take-add, drop-append-le, drop-drop}
 use Rattle.octets.specs.Octets.{beAt, bytesOf, patch, part, Octets}
 use Rattle.octets.proofs.Numbers.{be-drop, be-take, bytes-of-be}
 use Rattle.octets.proofs.Stores.{stores, patch-front, patch-over, patch-part, patch-within, length-patch}
@@ -111,18 +111,6 @@ pub patch-rest : (s : List ℕ) (e at : ℕ) (bs : List ℕ) {t : List ℕ} → 
 patch-rest s e at bs h q =
     let z : drop (length s - e) (drop e s) ≡ [] = drop-of-length-le (drop e s) (le-of-eq (length-drop e s)) in
     rw (z, append-nil, q, part-rest s e) (patch-part s e at bs h)
-
--- a part past the end, a part of no octets, and a part that runs past the end
-pub part-past : (s : List ℕ) (at n : ℕ) → length s ≤ at → [] ≡ part s at n
-part-past s at n h = rw (drop-of-length-le s h) (sym (take-nil n))
-
-pub part-none : (s : List ℕ) (at end : ℕ) → end ≤ at → [] ≡ part s at (end - at)
-part-none s at end h = let z : end - at ≡ 0 = omega arith in rw z
-
-pub part-cut : (s : List ℕ) (at end : ℕ) → length s ≤ end → part s at (length s - at) ≡ part s at (end - at)
-part-cut s at end h =
-    take-all (length s - at) (drop at s) (simp length-drop (omega arith))
-    ∙ sym (take-all (end - at) (drop at s) (simp length-drop (omega arith)))
 
 -- what is left of equal elements
 pub drop-replicate : (k n v : ℕ) → drop k (replicate n v) ≡ replicate (n - k) v
