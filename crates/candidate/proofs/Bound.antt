@@ -10,7 +10,7 @@ use borrow.Author.Tests.{eqb-true}
 use Rattle.header.specs.Kind.{known}
 use Rattle.checks.specs.Legacy.{legacy}
 use Rattle.checks.specs.Bgp4mp.{bgp4mp}
-use Rattle.checks.proofs.Largest.{bgp4mp-most, legacy-most}
+use Rattle.checks.proofs.Largest.{bgp4mp-most, legacy-most, largest, largest-passes}
 use Rattle.judge.specs.Body.{tableDump, check}
 use Rattle.candidate.specs.Candidate.{family}
 
@@ -34,3 +34,8 @@ bound-never-decides k u n b l = by-tests (known k) (eqb k 5) (eqb k 13) (eqb k 1
     by-tests true false y false q r f c = absurd (f refl)
     by-tests true false true true q r f c = absurd (apart q r)
     by-tests true false false true q r f c = let m = bgp4mp-most u b c in omega arith
+
+-- THEOREM. A record of type 16 with a body of 65,579 octets passes its check: no smaller bound would do.
+pub bound-reached : (length largest ≡ 65579) × (check 16 4 65579 largest ≡ 0)
+unfolding check known
+bound-reached = (largest-passes .1, largest-passes .2)
