@@ -60,7 +60,8 @@ module _ (judge : ℕ → Ask Judged) (candidate : ℕ → Ask Candidate) (s : L
   unfolding judged ownEnd resume over
   by-judged p l (fit f) q = fits f q
   by-judged p l (cut r) q = by-scan p r l (unframed q)
-  by-judged p l (off r e) q = subst (Call p) (sym (over-bind s _ (aligned judge (asked k) 0 e))) (by-tried (over s (aligned judge (asked k) 0 e)) refl)
+  by-judged p l (off r e) q =
+      subst (Call p) (sym (over-bind s _ (aligned judge (asked k) 0 e))) (by-tried (over s (aligned judge (asked k) 0 e)) refl)
     where
       by-tried : (t : Tried) → over s (aligned judge (asked k) 0 e) ≡ t → Call p (over s (resume judge candidate p window k r e t))
       by-tried (passed m) u = own r e m q u

@@ -12,8 +12,10 @@ use Rattle.rules.proofs.Asked.{over-bind}
 use Rattle.header.specs.Frame.{Framing}
 use Rattle.walk.specs.Judged.{Judged, fit, off, cut, Candidate}
 use Rattle.walk.specs.Step.{Answer, handed, gap, end, refused, Stepped, at, freshWalk, finishedAt, stopped, asked, nowhere, scan}
-use Rattle.walk.specs.Promises.{upTo, answers, Run, heard, Covers, Passed, Records, Follows, Confirmed, NoGap, Apart, RunTo, Confirms, Off, Scans, unconfirmed}
-use Rattle.walk.specs.Promises.{unframed as unframed-at, RowOf, Evident, NoRow, own as own-end, least, none as none-left, Shut, Sought, Promised}
+use Rattle.walk.specs.Promises.{upTo, answers, Run, heard, Covers, Passed, Records, Follows, Confirmed, NoGap, Apart}
+use Rattle.walk.specs.Promises.{RunTo, Confirms, Off, Scans, unconfirmed}
+use Rattle.walk.specs.Promises.{unframed as unframed-at, RowOf, Evident, NoRow, own as own-end, least, none as none-left}
+use Rattle.walk.specs.Promises.{Shut, Sought, Promised}
 use Rattle.walk.specs.Promises.{Last, over as over-last, shut}
 use Rattle.walk.specs.declared.Walk.{Walk}
 use Rattle.walk.proofs.Sound.{Sound}

@@ -1,5 +1,6 @@
--- Sound: what the walk rests on, of any judgement. Rows: rows of candidates, and the least offset. Calls: what one call is
--- by its cases. Demand3: what a whole walk promises. Turns: one turn of each loop, for code.
+-- Sound: what the walk rests on, of any judgement. Rows: rows of candidates, and the least offset. Calls: what one call is by its
+-- cases. Tries: the try at a record's own end. Demand3: what a whole walk promises. Determined: that this leaves one list of
+-- answers. Turns: one turn of each loop, for code.
 pub mod Sound
 pub mod Rows
 pub mod Calls

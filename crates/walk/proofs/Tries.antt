@@ -83,7 +83,8 @@ module _ (judge : ℕ → Ask Judged) (candidate : ℕ → Ask Candidate) (sound
     where
       by-judged : (j : Judged) → over s (judge p) ≡ j → over s (whenFit (aligned judge n (suc m)) (done failed) j) ≡ failed
           → p < length s → (c : ℕ) → RunTo judge s c p e → c ≤ suc n → (c < suc n → e ≡ length s)
-          → ((d b : ℕ) → b ≤ length s → over s (aligned judge n (suc m) b) ≡ failed → RunTo judge s d b e → d ≤ n → (d < n → e ≡ length s) → ⊥) → ⊥
+          → ((d b : ℕ) → b ≤ length s → over s (aligned judge n (suc m) b) ≡ failed → RunTo judge s d b e → d ≤ n
+          → (d < n → e ≡ length s) → ⊥) → ⊥
       by-judged j v q a zero r u h ih = let z : e ≡ length s = h (omega arith) in omega arith
       by-judged (fit f) v q a (suc d) r u h ih =
           let g : r .0 ≡ f = fit-unique (r .0) f (sym (r .1) ∙ v) in
@@ -94,7 +95,8 @@ module _ (judge : ℕ → Ask Judged) (candidate : ℕ → Ask Candidate) (sound
       by-test : (t : Bool) → leb (suc p) (length s) ≡ t
           → cond t (over s (judge p >>= whenFit (aligned judge n (suc m)) (done failed))) (passed m) ≡ failed
           → (c : ℕ) → RunTo judge s c p e → c ≤ suc n → (c < suc n → e ≡ length s)
-          → ((d b : ℕ) → b ≤ length s → over s (aligned judge n (suc m) b) ≡ failed → RunTo judge s d b e → d ≤ n → (d < n → e ≡ length s) → ⊥) → ⊥
+          → ((d b : ℕ) → b ≤ length s → over s (aligned judge n (suc m) b) ≡ failed → RunTo judge s d b e → d ≤ n
+          → (d < n → e ≡ length s) → ⊥) → ⊥
       by-test true t q c r u h ih =
           by-judged (over s (judge p)) refl (rw (over-bind s _ (judge p)) at q) (leb-true _ _ t) c r u h ih
       by-test false t q c r u h ih = let z : _≡_ {A = ℕ} 0 1 = cc in omega arith

@@ -162,7 +162,8 @@ module _ (s : List ℕ) (window k : ℕ) where
   Shown w l = (xs : List Stepped) × Run go w xs × Shows l xs
 
   -- what a run of calls shows, by its first call
-  module _ (w : Walk) (ws : List ℕ) (h : Holds (length s) w ws) (l : List Made) (rest : (v : Walk) (vs : List ℕ) → Holds (length s) v vs → Calls s window k vs l → Shown v l) where
+  module _ (w : Walk) (ws : List ℕ) (h : Holds (length s) w ws) (l : List Made)
+      (rest : (v : Walk) (vs : List ℕ) → Holds (length s) v vs → Calls s window k vs l → Shown v l) where
     by-next : (places walk left : List ℕ) (n : ℕ) → (walk, (left, n)) ≡ nextOut s ws window k places → Calls s window k walk l
         → Shown w (one places walk left n ∷ l)
     by-next places walk left n q c = by-room (leb 10 (length places)) refl

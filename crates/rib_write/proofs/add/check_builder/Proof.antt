@@ -50,7 +50,8 @@ returns-2 c =
 
 returns-3 : tie.Need-returns-3
 returns-3 c =
-    standing-unread _ _ _ (c .before .r .given .0 .0) (said-unmet _ _ _ (c .before .before .before .check-rib .ensures) (c .before .r .given .1))
+    standing-unread _ _ _ (c .before .r .given .0 .0)
+    (said-unmet _ _ _ (c .before .before .before .check-rib .ensures) (c .before .r .given .1))
 
 returns-4 : tie.Need-returns-4
 returns-4 c =

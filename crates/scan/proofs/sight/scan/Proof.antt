@@ -10,7 +10,8 @@ use Rattle.scan.proofs.sight.scan.Statement.{statement}
 use Rattle.scan.proofs.sight.scan.Tie as tie
 
 abbrev Inv-loop : tie.InvT-loop
-Inv-loop s p window more n last d offset family₀ evidence₀ i₀ at₀ family evidence i at = (i ≤ more) × Stood candidateAt s more offset i family evidence at
+Inv-loop s p window more n last d offset family₀ evidence₀ i₀ at₀ family evidence i at =
+    (i ≤ more) × Stood candidateAt s more offset i family evidence at
 
 abbrev μ-loop : tie.MeasureT-loop
 μ-loop s p window more n last d offset family₀ evidence₀ i₀ at₀ family evidence i at = more - i
