@@ -6,7 +6,7 @@ ghost use lib.ListN.{length, take};
 ghost use Rattle.octets.specs.Octets.{bytesOf, part, patch};
 
 // Whether m octets from an offset on lie within n.
-pub fn has_room(n: usize, at: usize, m: usize) -> bool
+fn has_room(n: usize, at: usize, m: usize) -> bool
     ensures answer { λ r. ⌜ r ≡ leb (at + m) n ⌝ }
 {
     if n < m {
