@@ -55,6 +55,22 @@ pub fn noise(octets: usize) -> Vec<u8> {
     noise
 }
 
+/// What a full disk leaves of a file.
+pub fn zeros(octets: usize) -> Vec<u8> {
+    let mut zeros = vec![0; octets];
+    lose(&mut zeros);
+    zeros
+}
+
+/// A header in every eighth octet that may be a candidate's until its body is looked at.
+pub fn plausible_starts(octets: usize) -> Vec<u8> {
+    let mut stream = PLAUSIBLE.repeat(octets / PLAUSIBLE.len());
+    lose(&mut stream);
+    stream
+}
+
+const PLAUSIBLE: [u8; 8] = [0, 16, 0, 4, 0, 0, 0, 44];
+
 /// Nothing begins at the front, so that the walk's first call is a scan.
 fn lose(stream: &mut [u8]) {
     let front = stream.len().min(12);
@@ -66,7 +82,7 @@ fn lose(stream: &mut [u8]) {
 pub fn false_starts(octets: usize) -> Vec<u8> {
     let third = octets / 24;
     let mut stream = [0, 16, 0, 16, 0, 16, 0, 16].repeat(third);
-    stream.extend([0, 16, 0, 4, 0, 0, 0, 44].repeat(third));
+    stream.extend(PLAUSIBLE.repeat(third));
     stream.extend([0, 5, 0, 1, 0, 0, 0, 16].repeat(third));
     lose(&mut stream);
     stream

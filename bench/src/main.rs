@@ -78,7 +78,10 @@ fn main() {
     let torn = || inputs::updates(4 * MIB).map(|stream| inputs::torn(&stream));
     chosen.walk("walk, 4 MiB damaged every 5,000 octets", torn, MIB);
     chosen.walk("scan, 8 MiB of noise", || Ok(inputs::noise(8 * MIB)), 8 * MIB);
+    chosen.walk("scan, 8 MiB of zeros", || Ok(inputs::zeros(8 * MIB)), 8 * MIB);
     chosen.walk("scan, 8 MiB of false starts", || Ok(inputs::false_starts(8 * MIB)), 8 * MIB);
+    let plausible = || Ok(inputs::plausible_starts(8 * MIB));
+    chosen.walk("scan, 8 MiB with a plausible start in every 8 octets", plausible, 8 * MIB);
     let table = Table::new(65_535);
     chosen.run(table.read("peer table of 65,535, read"));
     chosen.run(table.find("peer table of 65,535, 64 lookups", 64));

@@ -99,20 +99,44 @@ fn own_end(stream: &[u8], from: usize, asked: u8) -> Option<u8> {
     Some(asked)
 }
 
+/// How many distances are looked at one by one before blocks are asked.
+const NEAR: usize = 64;
+const BLOCK: usize = 64;
+
 /// The first offset after `from` where a row of candidates stands, with the first one's evidence.
 fn scan(stream: &[u8], from: usize, window: usize, asked: u8) -> Option<(usize, u8)> {
     let distances = window.min((stream.len() - from).saturating_sub(12));
-    // The two type octets of each distance; nearly every one is passed over here.
-    let types = stream.get(from + 5..from + 6 + distances)?;
-    for (before, pair) in types.windows(2).enumerate() {
-        if pair[0] == 0 && matches!(pair[1], 5 | 16 | 17) {
-            let offset = from + 1 + before;
-            if let Some(evidence) = row(stream, offset, asked) {
-                return Some((offset, evidence));
+    // From the first distance's type on; at each distance there are eight octets.
+    let types = stream.get(from + 5..from + 12 + distances)?;
+    let mut passed = 0;
+    while passed < distances {
+        // The two type octets of each distance; nearly every one is passed over here, or in a block.
+        let stop = distances.min(passed + NEAR);
+        for (before, pair) in types[passed..stop + 1].windows(2).enumerate() {
+            if pair[0] == 0 && matches!(pair[1], 5 | 16 | 17) {
+                let offset = from + 1 + passed + before;
+                if let Some(evidence) = row(stream, offset, asked) {
+                    return Some((offset, evidence));
+                }
             }
+        }
+        passed = stop;
+        while let Some(block) = types[passed..].first_chunk::<{ BLOCK + 7 }>() {
+            if marked(block) != 0 {
+                break;
+            }
+            passed += BLOCK;
         }
     }
     None
+}
+
+/// How many of the block's distances have a type and a length that may be a candidate's, by four octets. None is left out, so that the
+/// compiler takes sixteen at once.
+#[inline(always)]
+fn marked(block: &[u8; BLOCK + 7]) -> u8 {
+    let mark = |i: usize| (block[i] == 0) & (block[i + 1] >= 5) & (block[i + 4] == 0) & (block[i + 5] < 2);
+    (0..BLOCK).map(|i| u8::from(mark(i))).sum()
 }
 
 /// The evidence of the first of `asked` candidates of one family in a row.

@@ -1,16 +1,12 @@
-use Prim.Native.Nat.{ℕ, _+_, _-_, _<_, _≤_}
-use mathlib.Core.Path.{_≡_}
+use Prim.Native.Nat.{_≤_, _-_}
 use native.Mathlib.Omega.{arith}
-use Rattle.rules.specs.Ask.{over}
-use Rattle.walk.specs.Judged.{fails}
-use Rattle.candidate.specs.Candidate.{candidateAt}
-use Rattle.scan.proofs.Scans.{passed-none, passed-one}
-use borrow.Author.Needs.{needs}
+use Rattle.scan.specs.Sight.{Passed}
+use Rattle.scan.proofs.Scans.{passed-none, passed-on}
 use Rattle.scan.proofs.sight.pass_over.Statement.{statement}
 use Rattle.scan.proofs.sight.pass_over.Tie as tie
 
 abbrev Inv-loop : tie.InvT-loop
-Inv-loop s p from last d₀ d = (from ≤ d) × (d ≤ last) × ((e : ℕ) → from < e → e ≤ d → fails ≡ over s (candidateAt (p + e)))
+Inv-loop s p from last d₀ d = (from ≤ d) × (d ≤ last) × Passed s p from d
 
 abbrev μ-loop : tie.MeasureT-loop
 μ-loop s p from last d₀ d = last - d
@@ -18,29 +14,40 @@ abbrev μ-loop : tie.MeasureT-loop
 loop-holds : tie.Need-loop-holds Inv-loop μ-loop
 loop-holds c = (omega arith, omega arith, passed-none _ _ _)
 
-add-may-begin : tie.Need-add-may-begin Inv-loop μ-loop
-add-may-begin c = omega arith
+near-requires : tie.Need-near-requires Inv-loop μ-loop
+near-requires c κs = omega arith
 
-add-may-begin-2 : tie.Need-add-may-begin-2 Inv-loop μ-loop
-add-may-begin-2 c = omega arith
-
-may-begin-requires : tie.Need-may-begin-requires Inv-loop μ-loop
-may-begin-requires c κs = omega arith
+pass-each-requires : tie.Need-pass-each-requires Inv-loop μ-loop
+pass-each-requires c κs = (omega arith, omega arith)
 
 returns : tie.Need-returns Inv-loop μ-loop
-returns c = c .before .before .before .loop .inv
+returns c = (
+  omega arith,
+  omega arith,
+  passed-on _ _ _ _ _ (c .before .before .before .loop .inv .2) (c .before .pass-each .ensures .2),
+)
 
-add-d : tie.Need-add-d Inv-loop μ-loop
-add-d c = omega arith
+returns-2 : tie.Need-returns-2 Inv-loop μ-loop
+returns-2 c = (
+  omega arith,
+  omega arith,
+  passed-on _ _ _ _ _ (c .before .before .before .before .loop .inv .2) (c .before .before .pass-each .ensures .2),
+)
+
+pass-blocks-requires : tie.Need-pass-blocks-requires Inv-loop μ-loop
+pass-blocks-requires c κs = (omega arith, omega arith)
 
 loop-less : tie.Need-loop-less Inv-loop μ-loop
 loop-less c = omega arith
 
 loop-again : tie.Need-loop-again Inv-loop μ-loop
-loop-again c = (omega arith, omega arith, passed-one _ _ _ _ (c .before .before .before .loop .inv .2) (c .before .may-begin .ensures (c .if1 .left)))
-
-returns-2 : tie.Need-returns-2 Inv-loop μ-loop
-returns-2 c = c .before .loop .inv
+loop-again c = (
+  omega arith,
+  omega arith,
+  passed-on _ _ _ _ _
+      (passed-on _ _ _ _ _ (c .before .before .before .before .before .loop .inv .2) (c .before .before .before .pass-each .ensures .2))
+      (c .pass-blocks .ensures .2),
+)
 
 pub pass-over-spec : {M : Type 1} → statement M
 pass-over-spec =
@@ -49,11 +56,10 @@ pass-over-spec =
     Inv-loop
     μ-loop
     loop-holds
-    add-may-begin
-    add-may-begin-2
-    may-begin-requires
+    near-requires
+    pass-each-requires
     returns
-    add-d
+    returns-2
+    pass-blocks-requires
     loop-less
-    loop-again
-    returns-2)
+    loop-again)
