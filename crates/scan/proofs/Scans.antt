@@ -26,16 +26,28 @@ scan-reached s more p window d u l h = by-window (leb window d) refl
         let w : d < window = leb-false _ _ t in
         scan-past candidateAt s more p window d h (λ q m. sym (candidate-near s q (omega arith)))
 
--- distances that are passed over: none, one more, a clear block more, and from one place on
 pub passed-none : (s : List ℕ) (p from : ℕ) → Passed s p from from
 passed-none s p from e l u = absurd (omega arith)
 
-pub passed-one : (s : List ℕ) (p from d : ℕ) → Passed s p from d → fails ≡ over s (candidateAt (p + (d + 1))) → Passed s p from (d + 1)
-passed-one s p from d h q e l u = by-last (leb e d) refl
+-- distances that are passed over, and those after them
+pub passed-on : (s : List ℕ) (p from d to : ℕ) → Passed s p from d → Passed s p d to → Passed s p from to
+passed-on s p from d to h q e l u = by-place (leb e d) refl
   where
-    by-last : (t : Bool) → leb e d ≡ t → fails ≡ over s (candidateAt (p + e))
-    by-last true t = h e l (leb-true _ _ t)
-    by-last false t = let z : d + 1 ≡ e = let w : d < e = leb-false _ _ t in omega arith in rw (← z) q
+    by-place : (t : Bool) → leb e d ≡ t → fails ≡ over s (candidateAt (p + e))
+    by-place true t = h e l (leb-true _ _ t)
+    by-place false t = q e (leb-false _ _ t) u
+
+-- n clear offsets after them, and one
+pub passed-block : (s : List ℕ) (p from d n : ℕ) → Passed s p from d → Clear s (p + (d + 1)) n → Passed s p from (d + n)
+passed-block s p from d n h q = passed-on s p from d (d + n) h after
+  where
+    after : Passed s p d (d + n)
+    after e l u =
+        let z : p + (d + 1) + (e - (d + 1)) ≡ p + e = omega arith in
+        rw z at (q (e - (d + 1)) (omega arith))
+
+pub passed-one : (s : List ℕ) (p from d : ℕ) → Passed s p from d → fails ≡ over s (candidateAt (p + (d + 1))) → Passed s p from (d + 1)
+passed-one s p from d h q = passed-block s p from d 1 h (λ i l. let z : p + (d + 1) + i ≡ p + (d + 1) = omega arith in rw z q)
 
 pub clear-none : (s : List ℕ) (at : ℕ) → Clear s at 0
 clear-none s at i l = absurd (omega arith)
@@ -63,24 +75,6 @@ unmarked s p l h = by-type (eqb (getD s (p + 4) 0) 0) refl
     by-type : (t : Bool) → eqb (getD s (p + 4) 0) 0 ≡ t → fails ≡ over s (candidateAt p)
     by-type true t = by-low (eqb-true _ _ t) (leb 5 (getD s (p + 5) 0)) refl
     by-type false t = candidate-high s p l (eqb-false _ _ t)
-
--- a clear block after distances that are passed over
-pub passed-block : (s : List ℕ) (p from d n : ℕ) → Passed s p from d → Clear s (p + (d + 1)) n → Passed s p from (d + n)
-passed-block s p from d n h q e l u = by-place (leb e d) refl
-  where
-    by-place : (t : Bool) → leb e d ≡ t → fails ≡ over s (candidateAt (p + e))
-    by-place true t = h e l (leb-true _ _ t)
-    by-place false t =
-        let w : d < e = leb-false _ _ t in
-        let z : p + (d + 1) + (e - (d + 1)) ≡ p + e = omega arith in
-        rw z at (q (e - (d + 1)) (omega arith))
-
-pub passed-on : (s : List ℕ) (p from d to : ℕ) → Passed s p from d → Passed s p d to → Passed s p from to
-passed-on s p from d to h q e l u = by-place (leb e d) refl
-  where
-    by-place : (t : Bool) → leb e d ≡ t → fails ≡ over s (candidateAt (p + e))
-    by-place true t = h e l (leb-true _ _ t)
-    by-place false t = q e (leb-false _ _ t) u
 
 -- distances that are passed over are turned down
 pub left-passed : (s : List ℕ) (more p window from : ℕ) → from ≤ window → Left candidateAt s more p window from

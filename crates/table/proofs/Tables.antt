@@ -1,16 +1,15 @@
 -- The body's check: where the peers end, and what the check answers in each case.
 use Prim.Native.Nat.{ℕ, zero, suc, _+_, _-_, _<_, _≤_}
 use mathlib.Core.Path.{_≡_, refl, sym, _∙_, ap}
-use mathlib.Core.List.{List, []}
+use mathlib.Core.List.{List}
 use mathlib.Core.Bool.{Bool, true, false}
 use native.Mathlib.Nat.{zero-add, suc-add}
 use native.Mathlib.Numerals.{add-one}
 use native.Mathlib.Omega.{arith}
 use borrow.Author.Tests.{le-leb, lt-leb, leb-true}
 use lib.Dec.{leb}
-use lib.ListN.{length, getD, take, drop, length-drop, drop-of-length-le}
-use lib.Seq.{take-all}
-use Rattle.octets.specs.Octets.{beAt, part}
+use lib.ListN.{length, getD}
+use Rattle.octets.specs.Octets.{beAt}
 use Rattle.peer.specs.Peer.{peerSize}
 use Rattle.table.specs.Table.{Heading, refused, endAt, nameLength, peerCount, firstPeer, lastEnd, checkPeers}
 
@@ -90,26 +89,6 @@ module _ (s : List ℕ) where
       let ends : e ≡ lastEnd s = he ∙ ap (endAt s (firstPeer s)) (let z : i ≡ n = omega arith in z ∙ hn) ∙ sym last-is in
       let fits : lastEnd s ≤ length s = omega arith in
       rw (hc, hl, hn, hf, ends) (simp (le-leb _ _ fits))
-
--- ---- the view name
-module _ (s : List ℕ) (at n : ℕ) where
-  pub name-beyond : length s < at → take (length s - length s) (drop (length s) s) ≡ part s at n
-  name-beyond h =
-      let d : drop at s ≡ [] = drop-of-length-le s {i = at} (omega arith) in
-      let e : length s - length s ≡ 0 = omega arith in
-      rw (e, d) (sym (take-empty n))
-    where
-      take-empty : (k : ℕ) → take {A = ℕ} k [] ≡ []
-      take-empty zero = refl
-      take-empty (suc k) = refl
-
-  pub name-cut : length s - at < n → take (length s - at) (drop at s) ≡ part s at n
-  name-cut l =
-      let d : length (drop at s) ≡ length s - at = length-drop at s in
-      take-all (length s - at) (drop at s) (omega arith) ∙ sym (take-all n (drop at s) (omega arith))
-
-  pub name-whole : take (at + n - at) (drop at s) ≡ part s at n
-  name-whole = let e : at + n - at ≡ n = omega arith in rw e
 
 -- ---- a body that passed: each declared peer ends inside it
 module _ (s : List ℕ) (i : ℕ) where
