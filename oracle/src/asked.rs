@@ -1,5 +1,5 @@
-//! Questions in the form in which the proved program `crates/questions` replays them: a call, octets, numbers, and the
-//! expected answer with the lent memory after the call. `crates/questions/README.md` has the layout of each.
+//! Questions in the form in which the proved program `crates/oracle_questions` replays them: a call, octets, numbers, and the
+//! expected answer with the lent memory after the call. `crates/oracle_questions/README.md` has the layout of each.
 
 use crate::answers::{Answer, Candidate, Event, Frame, Header, NewEntry, Peer, PeerTable, RibEntry, RibTable};
 use crate::oracle::Oracle;

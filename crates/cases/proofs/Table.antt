@@ -5,18 +5,18 @@ use Rattle.rules.specs.Ask.{over, past, _>>=_}
 use Rattle.header.specs.Kind.{known, timed, size}
 use Rattle.header.specs.Read.{header, headerAt}
 use Rattle.header.specs.Frame.{framed, frame}
-use Rattle.peer.specs.Peer.{wide, addressSize, asSize, peerSize}
-use Rattle.table.specs.Table.{endAt, nameLength, peerCount, firstPeer, lastEnd, checkPeers}
+use Rattle.peers_entry.specs.Peer.{wide, addressSize, asSize, peerSize}
+use Rattle.peers_table.specs.Table.{endAt, nameLength, peerCount, firstPeer, lastEnd, checkPeers}
 use Rattle.rib_head.specs.Layout.{ipv4, ipv6, pathed, carried, mostBits, pathSize, prefixSize}
 use Rattle.rib_head.specs.Head.{bitsOf, countAt, declared, entriesAt, readable, checkRib}
 use Rattle.rib_entries.specs.Entry.{attributesAt, entryEnd, fits, passed, readCount}
-use Rattle.rib.specs.Rib.{ribOf}
-use Rattle.checks.specs.Message.{messageBounds, message}
-use Rattle.checks.specs.Bgp4mp.{asSizes, asSize as bgpAsSize, addressSize as bgpAddressSize, stateChange, tail, envelope, bgp4mp}
+use Rattle.rib_read.specs.Rib.{ribOf}
+use Rattle.walk_checks.specs.Message.{messageBounds, message}
+use Rattle.walk_checks.specs.Bgp4mp.{asSizes, asSize as bgpAsSize, addressSize as bgpAddressSize, stateChange, tail, envelope, bgp4mp}
 use Rattle.walk.specs.Step.{whenFit, whenOf, whenWhole, aligned, rowFrom, rowOn, row, scan, unfound, leave, scanned, resume, ownEnd, judged, going, step}
-use Rattle.judge.specs.Body.{tableDump, check}
-use Rattle.judge.specs.Record.{verdict, judge, judgeAt, judgementAt}
-use Rattle.candidate.specs.Candidate.{family, evidence, plausible, standing, headed, candidate, candidateAt}
+use Rattle.walk_judge.specs.Body.{tableDump, check}
+use Rattle.walk_judge.specs.Record.{verdict, judge, judgeAt, judgementAt}
+use Rattle.walk_candidate.specs.Candidate.{family, evidence, plausible, standing, headed, candidate, candidateAt}
 use Rattle.cases.specs.Cases.{Hold, rows}
 
 pub table : Hold rows

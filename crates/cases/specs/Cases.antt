@@ -10,13 +10,13 @@ use lib.ListN.{replicate, length}
 use Rattle.octets.specs.Octets.{bytesOf}
 use Rattle.rules.specs.Ask.{over}
 use Rattle.header.specs.Read.{Heading, headerAt}
-use Rattle.table.specs.Table.{checkPeers}
-use Rattle.rib.specs.Rib.{ribOf}
-use Rattle.checks.specs.Bgp4mp.{bgp4mp}
+use Rattle.peers_table.specs.Table.{checkPeers}
+use Rattle.rib_read.specs.Rib.{ribOf}
+use Rattle.walk_checks.specs.Bgp4mp.{bgp4mp}
 use Rattle.walk.specs.Judged.{Candidate, stands, fails}
 use Rattle.walk.specs.Step.{Answer, handed, gap, end, refused, Stepped, freshWalk, step}
-use Rattle.judge.specs.Record.{Judging, judgementAt, judgeAt}
-use Rattle.candidate.specs.Candidate.{candidateAt}
+use Rattle.walk_judge.specs.Record.{Judging, judgementAt, judgeAt}
+use Rattle.walk_candidate.specs.Candidate.{candidateAt}
 
 pub record Row : Type 0 where
   pub case : String

@@ -1,7 +1,7 @@
 // Lists the records and gaps of a dump: standard input in, a line for each to standard output.
 ghost use mathlib.Core.Path.{_≡_};
 ghost use lib.ListN.{length};
-ghost use Rattle.lines.specs.Listing.{room};
+ghost use Rattle.listing_lines.specs.Listing.{room};
 use libc::STDIN_FILENO;
 use libc::STDOUT_FILENO;
 
@@ -23,6 +23,6 @@ fn main() {
     let mut input = input_room();
     let n = io::read_full(STDIN_FILENO, &mut input);
     let mut text = text_room();
-    let m = lines::list(&input[..n], &mut text);
+    let m = listing_lines::list(&input[..n], &mut text);
     io::write_all(STDOUT_FILENO, &text[..m]);
 }

@@ -3,8 +3,8 @@ use Prim.Native.Nat.{ℕ}
 use mathlib.Core.List.{List}
 use Rattle.header.specs.Read.{Heading}
 use Rattle.header.specs.Frame.{Framing}
-use Rattle.lent.specs.Export.{exported}
-use Rattle.lent.specs.Records.{headValues, frameValues}
+use Rattle.mrt_lent.specs.Export.{exported}
+use Rattle.mrt_lent.specs.Records.{headValues, frameValues}
 
 -- a header that is read
 abbrev pub readOut : List ℕ → Heading → List ℕ × ℕ

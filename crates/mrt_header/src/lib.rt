@@ -3,13 +3,13 @@ ghost use mathlib.Core.Path.{_≡_};
 ghost use Rattle.header.specs.Read.{headerAt};
 ghost use Rattle.header.specs.Frame.{frameAt};
 ghost use Rattle.header.specs.Write.{writeHeader};
-ghost use Rattle.lent.specs.Writer.{writtenOut};
+ghost use Rattle.mrt_lent.specs.Writer.{writtenOut};
 ghost use Rattle.mrt_header.specs.Records.{readOut, framedOut};
 use header::CommonHeader;
 use header::FrameAnswer;
 use header::HeaderAnswer;
 use header::StoredLength;
-use lent::Wrote;
+use mrt_lent::Wrote;
 
 // The header at an offset of a stream.
 #[no_mangle]
@@ -17,10 +17,10 @@ pub extern "C" fn mrt_read_header(s: &[u8], at: usize, out: &mut [u64]) -> u32
     ensures answer { λ r. ⌜ (now (out .exit), r) ≡ readOut (now (out .entry)) (headerAt (now (s .entry)) at) ⌝ }
 {
     match header::read_header(s, at) {
-        HeaderAnswer::Refused(r) => lent::refusal(r),
+        HeaderAnswer::Refused(r) => mrt_lent::refusal(r),
         HeaderAnswer::Read { header, wire } => {
-            let v = lent::record_values(0, 0, header, wire, 0, 0);
-            lent::hand_out(out, &v[2..8])
+            let v = mrt_lent::record_values(0, 0, header, wire, 0, 0);
+            mrt_lent::hand_out(out, &v[2..8])
         }
     }
 }
@@ -31,15 +31,15 @@ pub extern "C" fn mrt_frame(s: &[u8], at: usize, out: &mut [u64]) -> u32
     ensures answer { λ r. ⌜ (now (out .exit), r) ≡ framedOut (now (out .entry)) (frameAt (now (s .entry)) at) ⌝ }
 {
     match header::frame_record(s, at) {
-        FrameAnswer::Refused(r) => lent::refusal(r),
+        FrameAnswer::Refused(r) => mrt_lent::refusal(r),
         FrameAnswer::Framed {
             header,
             wire,
             body,
             end,
         } => {
-            let v = lent::record_values(0, 0, header, wire, body, end);
-            lent::hand_out(out, &v[2..])
+            let v = mrt_lent::record_values(0, 0, header, wire, body, end);
+            mrt_lent::hand_out(out, &v[2..])
         }
     }
 }
@@ -63,5 +63,5 @@ pub extern "C" fn mrt_write_header(
         length: StoredLength(stored),
         micros,
     };
-    lent::wrote_of(header::write_header(out, header))
+    mrt_lent::wrote_of(header::write_header(out, header))
 }

@@ -5,8 +5,8 @@ use mathlib.Core.List.{List}
 use lib.ListN.{length}
 use borrow.Author.Tests.{lt-ltb, le-ltb}
 use Rattle.rules.specs.Ask.{over}
-use Rattle.candidate.specs.Candidate.{candidateAt}
-use Rattle.lent.specs.Export.{exported}
+use Rattle.walk_candidate.specs.Candidate.{candidateAt}
+use Rattle.mrt_lent.specs.Export.{exported}
 use Rattle.mrt_judge.specs.Judged.{candidateValues, candidateOut}
 
 module _ (out s : List ℕ) (at : ℕ) where

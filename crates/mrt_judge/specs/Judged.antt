@@ -7,10 +7,10 @@ use lib.ListN.{length}
 use lib.Dec.{ltb}
 use Rattle.rules.specs.Ask.{over}
 use Rattle.walk.specs.Judged.{Candidate, stands, fails}
-use Rattle.judge.specs.Record.{Judging}
-use Rattle.candidate.specs.Candidate.{candidateAt}
-use Rattle.lent.specs.Export.{exported}
-use Rattle.lent.specs.Records.{frameValues}
+use Rattle.walk_judge.specs.Record.{Judging}
+use Rattle.walk_candidate.specs.Candidate.{candidateAt}
+use Rattle.mrt_lent.specs.Export.{exported}
+use Rattle.mrt_lent.specs.Records.{frameValues}
 
 -- the values of a record that is judged
 abbrev pub judgeValues : Judging → List ℕ

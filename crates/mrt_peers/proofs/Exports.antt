@@ -6,13 +6,13 @@ use mathlib.Core.Bool.{Bool, true, false}
 use borrow.Author.Tests.{lt-ltb, le-ltb}
 use lib.ListN.{length}
 use lib.Dec.{ltb, eqb}
-use Rattle.lent.specs.Export.{sixteenOf}
-use Rattle.peer.specs.declared.Peer.{Peer}
-use Rattle.peer_slots.specs.Used.{wrongCount}
+use Rattle.mrt_lent.specs.Export.{sixteenOf}
+use Rattle.peers_entry.specs.declared.Peer.{Peer}
+use Rattle.peers_slots.specs.Used.{wrongCount}
 use Rattle.peers_add.specs.Add.{adding, appendPeer, addPeer}
 use Rattle.peers_add.specs.declared.AddAnswer.{AddAnswer}
 use Rattle.peers_add.specs.declared.AddAnswer.the-variants.{Known, Added, Refused}
-use Rattle.peers.specs.Find.{Finding, lookUp, findPeer}
+use Rattle.peers_find.specs.Find.{Finding, lookUp, findPeer}
 use Rattle.mrt_peers.specs.Add.{addedAs, addedOut, addOut}
 use Rattle.mrt_peers.specs.Given.{countFor, keyFor, peerFor, freshOf}
 use Rattle.mrt_peers.specs.Find.{foundOf, findOut}

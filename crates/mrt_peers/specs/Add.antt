@@ -4,7 +4,7 @@ use mathlib.Core.List.{List}
 use mathlib.Core.Bool.{cond}
 use lib.ListN.{length}
 use lib.Dec.{ltb}
-use Rattle.peer.specs.declared.Peer.{Peer}
+use Rattle.peers_entry.specs.declared.Peer.{Peer}
 use Rattle.peers_add.specs.Add.{Adding, addPeer}
 use Rattle.mrt_peers.specs.Given.{peerFor}
 use Rattle.mrt_peers.specs.declared.Found.{Found}

@@ -4,9 +4,9 @@ use mathlib.Core.List.{List}
 use mathlib.Core.Bool.{cond}
 use lib.ListN.{length}
 use lib.Dec.{ltb, eqb}
-use Rattle.lent.specs.Export.{sixteenOf}
-use Rattle.peer.specs.declared.Peer.{Peer}
-use Rattle.peers.specs.Find.{Finding, findPeer}
+use Rattle.mrt_lent.specs.Export.{sixteenOf}
+use Rattle.peers_entry.specs.declared.Peer.{Peer}
+use Rattle.peers_find.specs.Find.{Finding, findPeer}
 use Rattle.mrt_peers.specs.declared.Found.{Found}
 
 -- the refusal's number or 0, and the id

@@ -4,8 +4,8 @@ use mathlib.Core.List.{List}
 use mathlib.Core.Bool.{cond}
 use lib.ListN.{length}
 use lib.Dec.{ltb, eqb}
-use Rattle.lent.specs.Export.{sixteenOf}
-use Rattle.peer.specs.declared.Peer.{Peer}
+use Rattle.mrt_lent.specs.Export.{sixteenOf}
+use Rattle.peers_entry.specs.declared.Peer.{Peer}
 use Rattle.mrt_peers.specs.declared.Key.{Key}
 use Rattle.mrt_peers.specs.declared.Fresh.{Fresh}
 

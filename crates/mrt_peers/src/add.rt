@@ -5,8 +5,8 @@ ghost use Rattle.peers_add.specs.Add.{adding};
 ghost use Rattle.mrt_peers.specs.Add.{addOut, addedAs};
 use crate::Found;
 use crate::given::fresh_of;
-use peer::Peer;
 use peers_add::AddAnswer;
+use peers_entry::Peer;
 
 // What adding answers, in numbers.
 fn added_as(a: AddAnswer) -> Found
@@ -22,7 +22,7 @@ fn added_as(a: AddAnswer) -> Found
             id: id as u32,
         },
         AddAnswer::Refused(r) => Found {
-            refusal: lent::refusal(r),
+            refusal: mrt_lent::refusal(r),
             id: 0,
         },
     }

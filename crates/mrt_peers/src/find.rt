@@ -1,11 +1,11 @@
 // A lookup by address.
 ghost use mathlib.Core.Path.{_≡_};
-ghost use Rattle.peers.specs.Find.{finding};
+ghost use Rattle.peers_find.specs.Find.{finding};
 ghost use Rattle.mrt_peers.specs.Find.{findOut, foundOf};
 use crate::Found;
 use crate::given::key_for;
-use peer::Peer;
-use peers::FindAnswer;
+use peers_entry::Peer;
+use peers_find::FindAnswer;
 
 // What a lookup answers, in numbers.
 fn found_of(a: FindAnswer) -> Found
@@ -17,7 +17,7 @@ fn found_of(a: FindAnswer) -> Found
             id: id as u32,
         },
         FindAnswer::Refused(r) => Found {
-            refusal: lent::refusal(r),
+            refusal: mrt_lent::refusal(r),
             id: 0,
         },
     }
@@ -29,5 +29,5 @@ pub extern "C" fn mrt_find_peer(slots: &[Peer], count: usize, kind: u8, addr: &[
     ensures answer { λ r. ⌜ r ≡ findOut (now (slots .entry)) count kind (now (addr .entry)) ⌝ }
 {
     let key = key_for(count, kind, addr);
-    found_of(peers::find_peer(slots, key.count, key.v6, key.addr))
+    found_of(peers_find::find_peer(slots, key.count, key.v6, key.addr))
 }

@@ -3,7 +3,7 @@ ghost use mathlib.Core.Path.{_≡_};
 ghost use Rattle.mrt_peers.specs.Given.{countFor, freshOf, keyFor};
 use crate::Fresh;
 use crate::Key;
-use peer::Peer;
+use peers_entry::Peer;
 
 // The count, or one that no table has where the address has fewer than sixteen octets: the call then refuses 8.
 fn count_for(count: usize, n: usize) -> usize
@@ -19,7 +19,7 @@ fn count_for(count: usize, n: usize) -> usize
 pub(crate) fn key_for(count: usize, kind: u8, addr: &[u8]) -> Key
     ensures { λ r. ⌜ r ≡ keyFor count kind (now (addr .entry)) ⌝ }
 {
-    let octets = lent::sixteen(addr);
+    let octets = mrt_lent::sixteen(addr);
     Key {
         count: count_for(count, addr.len()),
         v6: kind % 2 == 1,
@@ -31,7 +31,7 @@ pub(crate) fn key_for(count: usize, kind: u8, addr: &[u8]) -> Key
 pub(crate) fn fresh_of(count: usize, kind: u8, id: u32, addr: &[u8], asn: u32) -> Fresh
     ensures { λ r. ⌜ r ≡ freshOf count kind id (now (addr .entry)) asn ⌝ }
 {
-    let octets = lent::sixteen(addr);
+    let octets = mrt_lent::sixteen(addr);
     let peer = Peer {
         kind,
         id,

@@ -6,7 +6,7 @@ mod given;
 
 pub use add::mrt_add_peer;
 pub use find::mrt_find_peer;
-use peer::Peer;
+use peers_entry::Peer;
 
 // What a lookup and an addition return: no id where they have refused.
 #[repr(C)]

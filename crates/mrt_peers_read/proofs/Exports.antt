@@ -2,9 +2,9 @@
 use Prim.Native.Nat.{ℕ}
 use mathlib.Core.Path.{_≡_, _∙_, ap}
 use mathlib.Core.List.{List}
-use Rattle.peer.specs.declared.Peer.{Peer}
-use Rattle.table.specs.Table.{heading}
-use Rattle.table.specs.declared.TableAnswer.{TableAnswer}
+use Rattle.peers_entry.specs.declared.Peer.{Peer}
+use Rattle.peers_table.specs.Table.{heading}
+use Rattle.peers_table.specs.declared.TableAnswer.{TableAnswer}
 use Rattle.peers_read.specs.Load.{Loading, loading}
 use Rattle.mrt_peers_read.specs.Load.{loadOut}
 

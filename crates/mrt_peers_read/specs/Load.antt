@@ -1,7 +1,7 @@
 -- Reading a body into slots from C (01, Peer table).
 use Prim.Native.Nat.{ℕ}
 use mathlib.Core.List.{List}
-use Rattle.peer.specs.declared.Peer.{Peer}
+use Rattle.peers_entry.specs.declared.Peer.{Peer}
 use Rattle.peers_read.specs.Load.{Loading}
 
 -- the slots after the call, and the refusal's number or 0

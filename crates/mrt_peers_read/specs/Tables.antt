@@ -1,8 +1,8 @@
 -- The values of peer tables, in the order of their fields (RFC 6396, 4.3.1; 01, Peer table).
 use Prim.Native.Nat.{ℕ}
 use mathlib.Core.List.{List, [], _∷_}
-use Rattle.table.specs.Table.{Heading}
-use Rattle.lent.specs.Export.{exported}
+use Rattle.peers_table.specs.Table.{Heading}
+use Rattle.mrt_lent.specs.Export.{exported}
 
 -- a peer table: collector, where the view name starts and its octets, peers, where the first one starts and the last one ends
 abbrev pub tableValues : Heading → List ℕ

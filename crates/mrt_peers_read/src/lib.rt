@@ -1,20 +1,20 @@
 // Peer tables read across the boundary: the check of a body, and the body in lent slots.
 ghost use mathlib.Core.Path.{_≡_};
-ghost use Rattle.table.specs.Table.{checkPeers};
+ghost use Rattle.peers_table.specs.Table.{checkPeers};
 ghost use Rattle.mrt_peers_read.specs.Tables.{tableOut};
 
 mod load;
 
 pub use load::mrt_load_peers;
-use table::TableAnswer;
+use peers_table::TableAnswer;
 
 // The head of a peer table whose body holds every declared peer.
 #[no_mangle]
 pub extern "C" fn mrt_check_peers(body: &[u8], out: &mut [u64]) -> u32
     ensures answer { λ r. ⌜ (now (out .exit), r) ≡ tableOut (now (out .entry)) (checkPeers (now (body .entry))) ⌝ }
 {
-    match table::check_peers(body) {
-        TableAnswer::Refused(r) => lent::refusal(r),
+    match peers_table::check_peers(body) {
+        TableAnswer::Refused(r) => mrt_lent::refusal(r),
         TableAnswer::Table {
             collector,
             name,
@@ -31,7 +31,7 @@ pub extern "C" fn mrt_check_peers(body: &[u8], out: &mut [u64]) -> u32
                 first as u64,
                 end as u64,
             ];
-            lent::hand_out(out, &v)
+            mrt_lent::hand_out(out, &v)
         }
     }
 }

@@ -1,10 +1,10 @@
 // A body read into slots.
 ghost use mathlib.Core.Path.{_≡_};
-ghost use Rattle.table.specs.Table.{heading};
+ghost use Rattle.peers_table.specs.Table.{heading};
 ghost use Rattle.peers_read.specs.Load.{loadPeers};
 ghost use Rattle.mrt_peers_read.specs.Load.{loadOut};
-use peer::Peer;
-use table::TableAnswer;
+use peers_entry::Peer;
+use peers_table::TableAnswer;
 
 // The number of an answer, 0 where the body is read.
 fn number_of(a: TableAnswer) -> u32
@@ -19,7 +19,7 @@ fn number_of(a: TableAnswer) -> u32
             first: _,
             end: _,
         } => 0,
-        TableAnswer::Refused(r) => lent::refusal(r),
+        TableAnswer::Refused(r) => mrt_lent::refusal(r),
     }
 }
 

@@ -1,9 +1,9 @@
 // The slots written as a body.
 ghost use mathlib.Core.Path.{_≡_};
-ghost use Rattle.lent.specs.Writer.{writtenOut};
+ghost use Rattle.mrt_lent.specs.Writer.{writtenOut};
 ghost use Rattle.peers_write.specs.Write.{writePeers};
-use lent::Wrote;
-use peer::Peer;
+use mrt_lent::Wrote;
+use peers_entry::Peer;
 
 // A body at the front of the lent output, and how many octets it takes.
 #[no_mangle]
@@ -16,5 +16,5 @@ pub extern "C" fn mrt_write_peers(
 ) -> Wrote
     ensures answer { λ r. ⌜ (now (out .exit), r) ≡ writtenOut (writePeers (now (out .entry)) collector (now (view .entry)) (now (slots .entry)) count) ⌝ }
 {
-    lent::wrote_of(peers_write::write_peers(out, collector, view, slots, count))
+    mrt_lent::wrote_of(peers_write::write_peers(out, collector, view, slots, count))
 }

@@ -5,11 +5,11 @@ use mathlib.Core.List.{List}
 use lib.ListN.{length, getD, set}
 use borrow.Author.Tests.{eq-eqb, ne-eqb}
 use Rattle.rules.specs.Ask.{over}
-use Rattle.judge.specs.Record.{judgeAt, judged}
-use Rattle.judge.specs.declared.Verdict.{Verdict}
-use Rattle.lent.specs.Rows.{rowsFrom, rowsOut, rowsHanded, noneHanded}
-use Rattle.lent.specs.declared.Handed.{Handed}
-use Rattle.lent.proofs.Walks.{walk-served}
+use Rattle.walk_judge.specs.Record.{judgeAt, judged}
+use Rattle.walk_judge.specs.declared.Verdict.{Verdict}
+use Rattle.mrt_lent.specs.Rows.{rowsFrom, rowsOut, rowsHanded, noneHanded}
+use Rattle.mrt_lent.specs.declared.Handed.{Handed}
+use Rattle.mrt_lent.proofs.Walks.{walk-served}
 use Rattle.mrt_records.specs.Records.{recordTurn, recordAt, recordsOut}
 
 -- the verdict v, which is w

@@ -8,11 +8,11 @@ use lib.ListN.{length, getD, set}
 use lib.Dec.{eqb}
 use Rattle.rules.specs.Ask.{over}
 use Rattle.walk.specs.Judged.{Judged, fit, off, cut}
-use Rattle.judge.specs.Record.{judgeAt}
-use Rattle.lent.specs.Records.{recordValues}
-use Rattle.lent.specs.Rows.{Turn, row, none, Rows, rowsFrom, rowsHanded, noneHanded}
-use Rattle.lent.specs.Walks.{onWalk}
-use Rattle.lent.specs.declared.Handed.{Handed}
+use Rattle.walk_judge.specs.Record.{judgeAt}
+use Rattle.mrt_lent.specs.Records.{recordValues}
+use Rattle.mrt_lent.specs.Rows.{Turn, row, none, Rows, rowsFrom, rowsHanded, noneHanded}
+use Rattle.mrt_lent.specs.Walks.{onWalk}
+use Rattle.mrt_lent.specs.declared.Handed.{Handed}
 use Rattle.octets.specs.Octets.{patch}
 
 -- a record at p that passes is a row, and the next one is looked for where it ends

@@ -3,10 +3,10 @@
 ghost use mathlib.Core.Path.{_≡_};
 ghost use Prim.Native.Nat.{_/_};
 ghost use lib.ListN.{length};
-ghost use Rattle.lent.specs.Rows.{rowsFrom, rowsOut};
+ghost use Rattle.mrt_lent.specs.Rows.{rowsFrom, rowsOut};
 ghost use Rattle.mrt_records.specs.Records.{recordAt, recordsOut};
-use judge::Verdict;
-use lent::Handed;
+use mrt_lent::Handed;
+use walk_judge::Verdict;
 
 // Where the records that are handed out end, and how many they are.
 struct Taken {
@@ -21,21 +21,21 @@ pub extern "C" fn mrt_records(s: &[u8], walk: &mut [u64], out: &mut [u64]) -> Ha
     ensures answer { λ r. ⌜ (now (walk .exit), (now (out .exit), r)) ≡ recordsOut (now (s .entry)) (now (walk .entry)) (now (out .entry)) ⌝ }
 {
     if walk.len() < 2 {
-        return lent::none_handed(8);
+        return mrt_lent::none_handed(8);
     }
     let position = walk[0] as usize;
     let finished = walk[1];
     if 1 < finished {
-        return lent::none_handed(8);
+        return mrt_lent::none_handed(8);
     }
     if s.len() < position {
-        return lent::none_handed(8);
+        return mrt_lent::none_handed(8);
     }
     if out.len() < 10 {
-        return lent::none_handed(9);
+        return mrt_lent::none_handed(9);
     }
     if finished == 1 {
-        return lent::none_handed(0);
+        return mrt_lent::none_handed(0);
     }
     let taken = take_records(s, position, out);
     walk[0] = taken.next as u64;
@@ -54,7 +54,7 @@ fn take_records(s: &[u8], from: usize, out: &mut [u64]) -> Taken
     let mut at: usize = 0;
     let mut count: u64 = 0;
     while 10 <= n - at {
-        match judge::judge_at(s, p) {
+        match walk_judge::judge_at(s, p) {
             Verdict::Cut(_) => return Taken { count, next: p },
             Verdict::Off { refusal: _, end: _ } => return Taken { count, next: p },
             Verdict::Fit {
@@ -63,8 +63,8 @@ fn take_records(s: &[u8], from: usize, out: &mut [u64]) -> Taken
                 body,
                 end,
             } => {
-                let v = lent::record_values(1, p, header, wire, body, end);
-                lent::put_values(&mut out[at..], &v);
+                let v = mrt_lent::record_values(1, p, header, wire, body, end);
+                mrt_lent::put_values(&mut out[at..], &v);
                 p = end;
                 at += 10;
                 count += 1;

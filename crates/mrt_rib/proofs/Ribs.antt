@@ -12,10 +12,10 @@ use Rattle.answer.specs.declared.Refusal.{Refusal}
 use Rattle.answer.proofs.Refusals.{number-not-zero}
 use Rattle.octets.specs.Octets.{patch}
 use Rattle.rib_head.specs.Head.{checkRib}
-use Rattle.rib.specs.Rib.{prefixAt}
-use Rattle.rib.specs.Rib.{Reading, ribOf}
-use Rattle.rib.specs.Rib as rib
-use Rattle.rib.specs.declared.Rib.{Rib}
+use Rattle.rib_read.specs.Rib.{prefixAt}
+use Rattle.rib_read.specs.Rib.{Reading, ribOf}
+use Rattle.rib_read.specs.Rib as rib
+use Rattle.rib_read.specs.declared.Rib.{Rib}
 use Rattle.rib_head.proofs.Prefixes.{length-cleared}
 use Rattle.mrt_rib.specs.Bodies.{ribValues, ribOut}
 

@@ -5,7 +5,7 @@ use mathlib.Core.Bool.{_&&_, cond}
 use lib.ListN.{length}
 use lib.Dec.{leb, eqb}
 use Rattle.octets.specs.Octets.{patch}
-use Rattle.rib.specs.Rib.{Reading}
+use Rattle.rib_read.specs.Rib.{Reading}
 
 -- a RIB body: sequence, prefix bits, declared count, read count, where the entries start
 abbrev pub ribValues : Reading → List ℕ

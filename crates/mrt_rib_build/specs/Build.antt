@@ -9,7 +9,7 @@ use lib.Dec.{leb}
 use Rattle.rib_write.specs.Add.{Opening, Pushing, pushEntry}
 use Rattle.rib_write.specs.declared.Builder.{Builder}
 use Rattle.rib_write.specs.declared.NewEntry.{NewEntry}
-use Rattle.lent.specs.Export.{exported}
+use Rattle.mrt_lent.specs.Export.{exported}
 
 -- the values of a builder that is opened
 abbrev pub openedValues : Opening → List ℕ

@@ -13,10 +13,10 @@ pub extern "C" fn mrt_open_rib(body: &[u8], subtype: u16, out: &mut [u64]) -> u3
     ensures answer { λ r. ⌜ (now (out .exit), r) ≡ openedOut (now (out .entry)) (openOf (now (body .entry)) subtype) ⌝ }
 {
     match rib_write::open_rib(body, subtype) {
-        BuilderAnswer::Refused(r) => lent::refusal(r),
+        BuilderAnswer::Refused(r) => mrt_lent::refusal(r),
         BuilderAnswer::Open(b) => {
             let v = [b.len as u64, b.at as u64, b.count as u64];
-            lent::hand_out(out, &v)
+            mrt_lent::hand_out(out, &v)
         }
     }
 }
@@ -52,10 +52,10 @@ pub extern "C" fn mrt_push_entry(
         path,
     };
     match rib_write::push_entry(out, subtype, b, e, attributes) {
-        BuilderAnswer::Refused(r) => lent::refusal(r),
+        BuilderAnswer::Refused(r) => mrt_lent::refusal(r),
         BuilderAnswer::Open(next) => {
             let v = [next.len as u64, next.at as u64, next.count as u64];
-            lent::hand_out(builder, &v)
+            mrt_lent::hand_out(builder, &v)
         }
     }
 }

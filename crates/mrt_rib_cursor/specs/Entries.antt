@@ -2,7 +2,7 @@
 use Prim.Native.Nat.{ℕ}
 use mathlib.Core.List.{List, [], _∷_, _++_}
 use Rattle.rib_entries.specs.Entry.{Entered, Placed, Stepped}
-use Rattle.lent.specs.Export.{exported, mark}
+use Rattle.mrt_lent.specs.Export.{exported, mark}
 
 -- an entry: peer index, originated time, path number, where the attributes start and end
 abbrev pub entryValues : Entered → List ℕ

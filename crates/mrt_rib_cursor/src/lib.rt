@@ -2,8 +2,8 @@
 ghost use mathlib.Core.Path.{_≡_};
 ghost use Rattle.rib_entries.specs.Entry.{entryOf, firstOf, nextOf};
 ghost use Rattle.mrt_rib_cursor.specs.Entries.{entryOut, placedOut, stepOut};
-use lent::hand_out;
-use lent::refusal;
+use mrt_lent::hand_out;
+use mrt_lent::refusal;
 use rib_entries::Cursor;
 use rib_entries::CursorAnswer;
 use rib_entries::EntryAnswer;

@@ -10,8 +10,8 @@ use Rattle.rib_head.specs.Layout.{carried}
 use Rattle.rib_entries.specs.Entry.{nextOf, nextValues}
 use Rattle.rib_entries.specs.declared.Cursor.{Cursor}
 use Rattle.rib_entries.specs.declared.NextAnswer.{NextAnswer}
-use Rattle.lent.specs.Rows.{rowsFrom, rowsOut, rowsHanded, noneHanded}
-use Rattle.lent.specs.declared.Handed.{Handed}
+use Rattle.mrt_lent.specs.Rows.{rowsFrom, rowsOut, rowsHanded, noneHanded}
+use Rattle.mrt_lent.specs.declared.Handed.{Handed}
 use Rattle.mrt_rib_entries.specs.Entries.{entryTurn, entryAt, holdsCursor, cursorIn, entriesOut}
 
 -- the answer a, which is b

@@ -10,8 +10,8 @@ use Rattle.octets.specs.Octets.{patch}
 use Rattle.rib_head.specs.Layout.{carried}
 use Rattle.rib_entries.specs.Entry.{Stepped, nextOf}
 use Rattle.rib_entries.specs.declared.Cursor.{Cursor}
-use Rattle.lent.specs.Rows.{Turn, row, none, Rows, rowsFrom, rowsHanded, noneHanded}
-use Rattle.lent.specs.declared.Handed.{Handed}
+use Rattle.mrt_lent.specs.Rows.{Turn, row, none, Rows, rowsFrom, rowsHanded, noneHanded}
+use Rattle.mrt_lent.specs.declared.Handed.{Handed}
 use Rattle.mrt_rib_cursor.specs.Entries.{entryValues}
 
 -- an entry that is handed out is a row, and the next one is looked for at the cursor after it

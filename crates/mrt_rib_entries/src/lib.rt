@@ -3,9 +3,9 @@
 ghost use mathlib.Core.Path.{_≡_};
 ghost use Prim.Native.Nat.{_/_};
 ghost use lib.ListN.{length};
-ghost use Rattle.lent.specs.Rows.{rowsFrom, rowsOut};
+ghost use Rattle.mrt_lent.specs.Rows.{rowsFrom, rowsOut};
 ghost use Rattle.mrt_rib_entries.specs.Entries.{entriesOut, entryAt};
-use lent::Handed;
+use mrt_lent::Handed;
 use rib_entries::Cursor;
 use rib_entries::NextAnswer;
 
@@ -26,22 +26,22 @@ pub extern "C" fn mrt_rib_entries(
     ensures answer { λ r. ⌜ (now (cursor .exit), (now (out .exit), r)) ≡ entriesOut (now (body .entry)) subtype (now (cursor .entry)) (now (out .entry)) ⌝ }
 {
     if cursor.len() < 2 {
-        return lent::none_handed(8);
+        return mrt_lent::none_handed(8);
     }
     let at = cursor[0] as usize;
     let left = cursor[1];
     if 65535 < left {
-        return lent::none_handed(8);
+        return mrt_lent::none_handed(8);
     }
     if body.len() < at {
-        return lent::none_handed(8);
+        return mrt_lent::none_handed(8);
     }
     let l = rib_head::layout_of(subtype);
     if !l.carried {
-        return lent::none_handed(6);
+        return mrt_lent::none_handed(6);
     }
     if out.len() < 5 {
-        return lent::none_handed(9);
+        return mrt_lent::none_handed(9);
     }
     let taken = take_entries(body, subtype, at, left as u16, out);
     let next = taken.next;
@@ -73,7 +73,7 @@ fn take_entries(body: &[u8], subtype: u16, at: usize, left: u16, out: &mut [u64]
                     entry.start as u64,
                     entry.end as u64,
                 ];
-                lent::put_values(&mut out[place..], &v);
+                mrt_lent::put_values(&mut out[place..], &v);
                 c = cursor;
                 place += 5;
                 count += 1;

@@ -6,7 +6,7 @@ use lib.ListN.{length}
 use borrow.Author.Tests.{le-leb, lt-leb}
 use Rattle.answer.specs.Writing.{Writing, refuse}
 use Rattle.rib_begin.specs.Begin.{beginRib}
-use Rattle.lent.specs.Export.{sixteenOf}
+use Rattle.mrt_lent.specs.Export.{sixteenOf}
 use Rattle.mrt_rib_write.specs.Begin.{beginFrom}
 
 module _ (s : List ℕ) (t sequence bits : ℕ) (prefix : List ℕ) where

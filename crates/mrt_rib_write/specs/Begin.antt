@@ -6,7 +6,7 @@ use lib.ListN.{length}
 use lib.Dec.{leb}
 use Rattle.answer.specs.Writing.{Writing, refuse}
 use Rattle.rib_begin.specs.Begin.{beginRib}
-use Rattle.lent.specs.Export.{sixteenOf}
+use Rattle.mrt_lent.specs.Export.{sixteenOf}
 
 -- a body begun with a prefix that is lent
 unfoldable pub beginFrom : List ℕ → ℕ → ℕ → ℕ → List ℕ → Writing

@@ -1,11 +1,11 @@
 // RIB bodies across the boundary, written.
 ghost use mathlib.Core.Path.{_≡_};
 ghost use Rattle.rib_write.specs.Add.{addEntry};
-ghost use Rattle.lent.specs.Writer.{writtenOut};
+ghost use Rattle.mrt_lent.specs.Writer.{writtenOut};
 ghost use Rattle.mrt_rib_write.specs.Begin.{beginFrom};
 use answer::Refusal;
 use answer::Written;
-use lent::Wrote;
+use mrt_lent::Wrote;
 use rib_write::NewEntry;
 
 // A body with no entry at the front of the lent output.
@@ -20,10 +20,10 @@ pub extern "C" fn mrt_begin_rib(
     ensures answer { λ r. ⌜ (now (out .exit), r) ≡ writtenOut (beginFrom (now (out .entry)) subtype sequence bits (now (prefix .entry))) ⌝ }
 {
     if prefix.len() < 16 {
-        return lent::wrote_of(Written::Refused(Refusal::Beyond));
+        return mrt_lent::wrote_of(Written::Refused(Refusal::Beyond));
     }
-    let octets = lent::sixteen(prefix);
-    lent::wrote_of(rib_begin::begin_rib(out, subtype, sequence, bits, octets))
+    let octets = mrt_lent::sixteen(prefix);
+    mrt_lent::wrote_of(rib_begin::begin_rib(out, subtype, sequence, bits, octets))
 }
 
 // One more entry in a body that fills the first len octets of the lent output.
@@ -44,5 +44,5 @@ pub extern "C" fn mrt_add_entry(
         originated,
         path,
     };
-    lent::wrote_of(rib_write::add_entry(out, len, subtype, e, attributes))
+    mrt_lent::wrote_of(rib_write::add_entry(out, len, subtype, e, attributes))
 }

@@ -4,8 +4,8 @@ use mathlib.Core.Path.{_≡_, sym, _∙_, ap}
 use mathlib.Core.List.{List, [], _∷_}
 use Rattle.octets.specs.Octets.{patch}
 use Rattle.walk.specs.Step.{gap, refused}
-use Rattle.recover.specs.Answers.{said}
-use Rattle.recover.specs.declared.WalkAnswer.{WalkAnswer}
+use Rattle.walk_step.specs.Answers.{said}
+use Rattle.walk_step.specs.declared.WalkAnswer.{WalkAnswer}
 use Rattle.mrt_walk.specs.Next.{answerValues, answerNumber, answerOut}
 
 -- an answer a, which is b

@@ -12,13 +12,13 @@ use Rattle.header.specs.Frame.{Framing}
 use Rattle.walk.specs.Judged.{Judged, fit}
 use Rattle.walk.specs.Step.{Answer, handed, Stepped, at, step}
 use Rattle.walk.specs.declared.Walk.{Walk}
-use Rattle.judge.specs.Record.{judgeAt}
-use Rattle.candidate.specs.Candidate.{candidateAt}
-use Rattle.judge.proofs.Soundness.{Inside, inside}
+use Rattle.walk_judge.specs.Record.{judgeAt}
+use Rattle.walk_candidate.specs.Candidate.{candidateAt}
+use Rattle.walk_judge.proofs.Soundness.{Inside, inside}
 use Rattle.walk.proofs.Turns.{step-fit}
-use Rattle.lent.specs.Records.{recordValues}
-use Rattle.lent.proofs.Walks.{walk-served}
-use Rattle.lent.specs.Export.{mark}
+use Rattle.mrt_lent.specs.Records.{recordValues}
+use Rattle.mrt_lent.proofs.Walks.{walk-served}
+use Rattle.mrt_lent.specs.Export.{mark}
 use Rattle.mrt_walk.specs.Next.{walkIn, answerOut, steppedOut, nextOut}
 
 -- the walk v and the answer a are stored

@@ -9,11 +9,11 @@ use Rattle.octets.specs.Octets.{patch}
 use Rattle.rules.specs.Ask.{over}
 use Rattle.walk.specs.Step.{Answer, handed, gap, end, refused, Stepped, step}
 use Rattle.walk.specs.declared.Walk.{Walk}
-use Rattle.judge.specs.Record.{judgeAt}
-use Rattle.candidate.specs.Candidate.{candidateAt}
-use Rattle.lent.specs.Export.{mark}
-use Rattle.lent.specs.Records.{recordValues}
-use Rattle.lent.specs.Walks.{onWalk}
+use Rattle.walk_judge.specs.Record.{judgeAt}
+use Rattle.walk_candidate.specs.Candidate.{candidateAt}
+use Rattle.mrt_lent.specs.Export.{mark}
+use Rattle.mrt_lent.specs.Records.{recordValues}
+use Rattle.mrt_lent.specs.Walks.{onWalk}
 
 -- the walk that they hold
 abbrev pub walkIn : List ℕ → Walk

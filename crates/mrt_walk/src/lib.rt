@@ -1,20 +1,20 @@
 // The walk across the boundary.
 ghost use mathlib.Core.Path.{_≡_};
-ghost use Rattle.recover.specs.Answers.{said};
+ghost use Rattle.walk_step.specs.Answers.{said};
 ghost use Prim.Native.Nat.{_≤_};
 ghost use lib.ListN.{length};
 ghost use Rattle.rules.specs.Ask.{over};
 ghost use Rattle.answer.specs.Refusal.{numberOf};
 ghost use Rattle.walk.specs.Step.{step, gap, refused};
-ghost use Rattle.judge.specs.Record.{judgeAt};
-ghost use Rattle.candidate.specs.Candidate.{candidateAt};
+ghost use Rattle.walk_judge.specs.Record.{judgeAt};
+ghost use Rattle.walk_candidate.specs.Candidate.{candidateAt};
 ghost use Rattle.mrt_walk.specs.Next.{walkIn, answerOut, steppedOut, nextOut};
 use answer::Refusal;
-use judge::Verdict;
-use lent::put_values;
-use lent::refusal;
-use recover::WalkAnswer;
+use mrt_lent::put_values;
+use mrt_lent::refusal;
 use walk::Walk;
+use walk_judge::Verdict;
+use walk_step::WalkAnswer;
 
 // The next answer of a walk that is lent as its position and its finished mark. Room for every answer is asked for before the
 // walk moves, so that no answer is lost.
@@ -49,9 +49,9 @@ pub extern "C" fn mrt_next(
             wire,
             body,
             end,
-        } = judge::judge_at(s, position) {
+        } = walk_judge::judge_at(s, position) {
             walk[0] = end as u64;
-            let v = lent::record_values(1, position, header, wire, body, end);
+            let v = mrt_lent::record_values(1, position, header, wire, body, end);
             put_values(out, &v);
             return 0;
         }
@@ -68,10 +68,10 @@ fn take_step(s: &[u8], walk: &mut [u64], window: usize, asked: u8, out: &mut [u6
         position: walk[0] as usize,
         finished: walk[1] == 1,
     };
-    let after = recover::step(s, before, window, asked);
+    let after = walk_step::step(s, before, window, asked);
     let moved = after.walk;
     walk[0] = moved.position as u64;
-    walk[1] = lent::mark_of(moved.finished);
+    walk[1] = mrt_lent::mark_of(moved.finished);
     let answer = after.answer;
     put_answer(out, answer)
 }
@@ -88,7 +88,7 @@ fn put_answer(out: &mut [u64], a: WalkAnswer) -> u32
             body,
             end,
         } => {
-            let v = lent::record_values(1, start, header, wire, body, end);
+            let v = mrt_lent::record_values(1, start, header, wire, body, end);
             put_values(out, &v);
             0
         }

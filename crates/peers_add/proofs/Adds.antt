@@ -7,10 +7,10 @@ use native.Mathlib.Omega.{arith}
 use borrow.Author.Tests.{lt-ltb, le-ltb, leb-false}
 use lib.ListN.{length, set}
 use lib.Dec.{ltb, leb, eqb}
-use Rattle.peer.specs.Peer.{stored}
-use Rattle.peer.specs.declared.Peer.{Peer}
-use Rattle.peer_slots.specs.Used.{wrongCount}
-use Rattle.peers.specs.Find.{Finding, lookUp}
+use Rattle.peers_entry.specs.Peer.{stored}
+use Rattle.peers_entry.specs.declared.Peer.{Peer}
+use Rattle.peers_slots.specs.Used.{wrongCount}
+use Rattle.peers_find.specs.Find.{Finding, lookUp}
 use Rattle.peers_add.specs.Add.{Adding, adding, appendPeer, addPeer}
 use Rattle.peers_add.specs.Steps.{newPlace, placeOf}
 use Rattle.peers_add.specs.declared.AddAnswer.{AddAnswer}

@@ -10,15 +10,15 @@ use borrow.Author.Tests.{lt-leb, leb-false, eq-eqb, eqb-true, eqb-false}
 use lib.ListN.{length, getD, set, length-set}
 use lib.Seq.{getD-set-same, getD-set-other}
 use lib.Dec.{leb, eqb}
-use Rattle.peer.specs.Peer.{nobody, stored, keyOf, sameAddress}
-use Rattle.peer.specs.declared.Peer.{Peer}
-use Rattle.peer.proofs.Stored.{stored-stored}
-use Rattle.peer.proofs.SameAddress.{HasAddress, key-plainly, same-self, same-stored}
-use Rattle.peer_slots.specs.Used.{wrongCount}
-use Rattle.peer_slots.proofs.Counts.{right}
-use Rattle.peer_slots.proofs.AsStored.{AsStored}
-use Rattle.peers.specs.Find.{found, lost, highest, lookUp, findPeer}
-use Rattle.peers.proofs.Highest.{look-up-highest, looked-right, highest-kept, find-own}
+use Rattle.peers_entry.specs.Peer.{nobody, stored, keyOf, sameAddress}
+use Rattle.peers_entry.specs.declared.Peer.{Peer}
+use Rattle.peers_entry.proofs.Stored.{stored-stored}
+use Rattle.peers_entry.proofs.SameAddress.{HasAddress, key-plainly, same-self, same-stored}
+use Rattle.peers_slots.specs.Used.{wrongCount}
+use Rattle.peers_slots.proofs.Counts.{right}
+use Rattle.peers_slots.proofs.AsStored.{AsStored}
+use Rattle.peers_find.specs.Find.{found, lost, highest, lookUp, findPeer}
+use Rattle.peers_find.proofs.Highest.{look-up-highest, looked-right, highest-kept, find-own}
 use Rattle.peers_add.specs.Add.{Adding, notAdded, appendPeer, addPeer}
 
 module _ (l : List Peer) (count : ℕ) (p : Peer) where

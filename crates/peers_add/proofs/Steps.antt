@@ -7,11 +7,11 @@ use native.Mathlib.Omega.{arith}
 use borrow.Author.Tests.{le-leb, lt-leb, ne-eqb}
 use Rattle.answer.specs.declared.Refusal.{Refusal}
 use Rattle.answer.proofs.Refusals.{number-not-zero}
-use Rattle.peer_slots.specs.Used.{wrongCount}
-use Rattle.peers.specs.Find.{finding}
-use Rattle.peers.specs.declared.FindAnswer.{FindAnswer}
-use Rattle.peers.specs.declared.FindAnswer.the-variants.{Id}
-use Rattle.peers.specs.declared.FindAnswer.the-variants as F
+use Rattle.peers_slots.specs.Used.{wrongCount}
+use Rattle.peers_find.specs.Find.{finding}
+use Rattle.peers_find.specs.declared.FindAnswer.{FindAnswer}
+use Rattle.peers_find.specs.declared.FindAnswer.the-variants.{Id}
+use Rattle.peers_find.specs.declared.FindAnswer.the-variants as F
 use Rattle.peers_add.specs.Add.{Adding, adding, notAdded}
 use Rattle.peers_add.specs.Steps.{newPlace, placeOf}
 use Rattle.peers_add.specs.declared.AddAnswer.the-variants.{Known}

@@ -4,7 +4,7 @@ use mathlib.Core.Path.{_≡_, refl, sym, _∙_, ap}
 use mathlib.Core.List.{List}
 use native.Mathlib.Omega.{arith}
 use Rattle.answer.proofs.Refusals.{number-not-zero, number-unique}
-use Rattle.peer.specs.declared.Peer.{Peer}
+use Rattle.peers_entry.specs.declared.Peer.{Peer}
 use Rattle.peers_add.specs.Add.{Adding, adding}
 use Rattle.peers_add.specs.declared.AddAnswer.{AddAnswer}
 use Rattle.peers_add.specs.declared.AddAnswer.the-variants as A

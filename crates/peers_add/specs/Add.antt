@@ -6,10 +6,10 @@ use mathlib.Core.Bool.{cond}
 use lib.ListN.{length, set}
 use lib.Dec.{leb, eqb}
 use Rattle.answer.specs.Refusal.{numberOf}
-use Rattle.peer.specs.Peer.{stored}
-use Rattle.peer.specs.declared.Peer.{Peer}
-use Rattle.peer_slots.specs.Used.{wrongCount}
-use Rattle.peers.specs.Find.{lookUp}
+use Rattle.peers_entry.specs.Peer.{stored}
+use Rattle.peers_entry.specs.declared.Peer.{Peer}
+use Rattle.peers_slots.specs.Used.{wrongCount}
+use Rattle.peers_find.specs.Find.{lookUp}
 use Rattle.peers_add.specs.declared.AddAnswer.{AddAnswer}
 use Rattle.peers_add.specs.declared.AddAnswer.the-variants.{Known, Added, Refused}
 

@@ -3,8 +3,8 @@ use Prim.Native.Nat.{ℕ}
 use mathlib.Core.List.{[]}
 use mathlib.Core.Bool.{cond}
 use lib.Dec.{leb, eqb}
-use Rattle.peer_slots.specs.Used.{wrongCount}
-use Rattle.peers.specs.Find.{Finding}
+use Rattle.peers_slots.specs.Used.{wrongCount}
+use Rattle.peers_find.specs.Find.{Finding}
 use Rattle.peers_add.specs.Add.{Adding, notAdded}
 
 -- the answer to a peer whose address is not known, and the slot to write, which is beyond the slots where there is none

@@ -2,13 +2,13 @@
 ghost use mathlib.Core.Path.{_≡_};
 ghost use mathlib.Core.List.{[]};
 ghost use Rattle.answer.specs.Refusal.{numberOf};
-ghost use Rattle.peers.specs.Find.{finding};
+ghost use Rattle.peers_find.specs.Find.{finding};
 ghost use Rattle.peers_add.specs.Add.{adding, notAdded};
 ghost use Rattle.peers_add.specs.Steps.{newPlace, placeOf};
 use crate::AddAnswer;
 use crate::Place;
 use answer::Refusal;
-use peers::FindAnswer;
+use peers_find::FindAnswer;
 
 // Where a new peer goes, after its address was looked up.
 pub(crate) fn place(slots: usize, count: usize, found: FindAnswer) -> Place

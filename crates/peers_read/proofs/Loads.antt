@@ -11,15 +11,15 @@ use lib.Seq.{getD-set-same, getD-set-other}
 use lib.Dec.{ltb, eqb}
 use Rattle.answer.specs.Refusal.{numberOf}
 use Rattle.answer.specs.declared.Refusal.{Refusal}
-use Rattle.peer.specs.Peer.{nobody, peerSize, peerAt, Reading, readPeer}
-use Rattle.table.specs.Table.{Heading, heading, refused, endAt, checkPeers}
-use Rattle.peer.specs.declared.Peer.{Peer}
-use Rattle.table.specs.declared.TableAnswer.{TableAnswer}
-use Rattle.table.specs.declared.TableAnswer.the-variants as B
-use Rattle.table.proofs.Tables.{end-none, end-more, held-within}
-use Rattle.peer.proofs.Records.{read-fits}
-use Rattle.peer.proofs.Stored.{stored-read}
-use Rattle.peer_slots.proofs.AsStored.{AsStored}
+use Rattle.peers_entry.specs.Peer.{nobody, peerSize, peerAt, Reading, readPeer}
+use Rattle.peers_table.specs.Table.{Heading, heading, refused, endAt, checkPeers}
+use Rattle.peers_entry.specs.declared.Peer.{Peer}
+use Rattle.peers_table.specs.declared.TableAnswer.{TableAnswer}
+use Rattle.peers_table.specs.declared.TableAnswer.the-variants as B
+use Rattle.peers_table.proofs.Tables.{end-none, end-more, held-within}
+use Rattle.peers_entry.proofs.Records.{read-fits}
+use Rattle.peers_entry.proofs.Stored.{stored-read}
+use Rattle.peers_slots.proofs.AsStored.{AsStored}
 use Rattle.peers_read.specs.Load.{filled, headFor, loadPeers, loading}
 
 -- ---- the head for so many slots

@@ -4,10 +4,10 @@ use mathlib.Core.List.{List}
 use mathlib.Core.Bool.{cond}
 use lib.ListN.{length, set}
 use lib.Dec.{ltb}
-use Rattle.peer.specs.Peer.{peerAt}
-use Rattle.table.specs.Table.{Heading, heading, refused, endAt, checkPeers}
-use Rattle.peer.specs.declared.Peer.{Peer}
-use Rattle.table.specs.declared.TableAnswer.{TableAnswer}
+use Rattle.peers_entry.specs.Peer.{peerAt}
+use Rattle.peers_table.specs.Table.{Heading, heading, refused, endAt, checkPeers}
+use Rattle.peers_entry.specs.declared.Peer.{Peer}
+use Rattle.peers_table.specs.declared.TableAnswer.{TableAnswer}
 
 -- the body's head, and the slots after the call
 pub record Loading : Type 0 where

@@ -2,7 +2,7 @@
 mod load;
 
 pub use load::load_peers;
-use table::TableAnswer;
+use peers_table::TableAnswer;
 
 // What is to be read: the answer, how many peers, and where the first one starts.
 pub(crate) struct Plan {

@@ -1,17 +1,17 @@
 // A body read into slots.
 ghost use mathlib.Core.Path.{_≡_};
-ghost use Rattle.table.specs.Table.{heading};
+ghost use Rattle.peers_table.specs.Table.{heading};
 ghost use Rattle.peers_read.specs.Load.{headFor, loadPeers, loading};
 use crate::Plan;
 use answer::Refusal;
-use peer::Peer;
-use table::TableAnswer;
+use peers_entry::Peer;
+use peers_table::TableAnswer;
 
 // The check of a body, and what of it goes into slots.
 fn plan_load(body: &[u8], slots: usize) -> Plan
     ensures { λ r. ⌜ (heading (r .answer) ≡ headFor (now (body .entry)) slots) × (r .count ≡ headFor (now (body .entry)) slots .count) × (r .first ≡ headFor (now (body .entry)) slots .first) ⌝ }
 {
-    let answer = table::check_peers(body);
+    let answer = peers_table::check_peers(body);
     match answer {
         TableAnswer::Refused(r) => Plan {
             answer: TableAnswer::Refused(r),
@@ -57,7 +57,7 @@ pub fn load_peers(body: &[u8], slots: &mut [Peer]) -> TableAnswer
     let mut at = plan.first;
     let mut i: usize = 0;
     while i < plan.count {
-        let got = peer::read_peer(body, at);
+        let got = peers_entry::read_peer(body, at);
         slots[i] = got.peer;
         at = got.next;
         i += 1;

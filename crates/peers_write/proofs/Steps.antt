@@ -15,9 +15,9 @@ use Rattle.answer.specs.declared.Written.the-variants as W
 use Rattle.octets.specs.Octets.{bytesOf, patch}
 use Rattle.octets.proofs.Numbers.{length-bytes}
 use Rattle.octets.proofs.Stores.{stores}
-use Rattle.peer.specs.Peer.{wide, addressSize, asSize, peerSize, unfit}
-use Rattle.peer.specs.declared.Peer.{Peer}
-use Rattle.peer_slots.specs.Used.{wrongCount}
+use Rattle.peers_entry.specs.Peer.{wide, addressSize, asSize, peerSize, unfit}
+use Rattle.peers_entry.specs.declared.Peer.{Peer}
+use Rattle.peers_slots.specs.Used.{wrongCount}
 use Rattle.peers_write.specs.Write.{headOctets}
 use Rattle.peers_write.specs.Steps.{lessPeer, Starting, starting, startWrite}
 use Rattle.peers_write.specs.declared.Left.{Left}

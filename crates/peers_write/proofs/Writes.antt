@@ -15,17 +15,17 @@ use Rattle.answer.specs.declared.Written.the-variants.{Octets, Refused}
 use Rattle.octets.specs.Octets.{bytesOf, patch}
 use Rattle.octets.proofs.Numbers.{length-bytes}
 use Rattle.octets.proofs.Stores.{stores, patch-front}
-use Rattle.peer.specs.Peer.{nobody, peerSize, unfit, peerOctets, putPeer}
-use Rattle.peer.specs.declared.Peer.{Peer}
-use Rattle.peer.proofs.Records.{length-peer}
-use Rattle.peer_slots.specs.Used.{wrongCount}
+use Rattle.peers_entry.specs.Peer.{nobody, peerSize, unfit, peerOctets, putPeer}
+use Rattle.peers_entry.specs.declared.Peer.{Peer}
+use Rattle.peers_entry.proofs.Records.{length-peer}
+use Rattle.peers_slots.specs.Used.{wrongCount}
 use Rattle.peers_write.specs.Write.{headOctets, peersOctets, anyUnfit, tableOctets, writePeers}
-use Rattle.peer_slots.specs.Used.{inUse}
+use Rattle.peers_slots.specs.Used.{inUse}
 use Rattle.peers_write.specs.Steps.{sizes, leaves, lessPeer, Starting, starting, startWrite}
 use Rattle.peers_write.specs.declared.Left.{Left}
 use Rattle.peers_write.specs.declared.Start.{Start}
 use Rattle.peers_write.proofs.Steps.{start-wrong, start-name, start-unfit, start-small, start-whole}
-use Rattle.peer_slots.proofs.Counts.{used-either}
+use Rattle.peers_slots.proofs.Counts.{used-either}
 
 -- ---- what the peers in the first n slots leave of the room
 module _ (l : List Peer) (room : ℕ) where

@@ -6,9 +6,9 @@ use lib.ListN.{length, getD}
 use lib.Dec.{leb, ltb}
 use Rattle.answer.specs.Writing.{Writing, wrote, refuse}
 use Rattle.octets.specs.Octets.{patch}
-use Rattle.peer.specs.Peer.{nobody, peerSize, unfit}
-use Rattle.peer.specs.declared.Peer.{Peer}
-use Rattle.peer_slots.specs.Used.{wrongCount}
+use Rattle.peers_entry.specs.Peer.{nobody, peerSize, unfit}
+use Rattle.peers_entry.specs.declared.Peer.{Peer}
+use Rattle.peers_slots.specs.Used.{wrongCount}
 use Rattle.peers_write.specs.Write.{headOctets, anyUnfit}
 use Rattle.peers_write.specs.declared.Left.{Left}
 use Rattle.peers_write.specs.declared.Start.{Start}

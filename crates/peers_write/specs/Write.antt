@@ -7,9 +7,9 @@ use lib.ListN.{length, getD}
 use lib.Dec.{ltb}
 use Rattle.answer.specs.Writing.{Writing, refuse, atFront}
 use Rattle.octets.specs.Octets.{bytesOf}
-use Rattle.peer.specs.Peer.{nobody, peerOctets, unfit}
-use Rattle.peer.specs.declared.Peer.{Peer}
-use Rattle.peer_slots.specs.Used.{wrongCount}
+use Rattle.peers_entry.specs.Peer.{nobody, peerOctets, unfit}
+use Rattle.peers_entry.specs.declared.Peer.{Peer}
+use Rattle.peers_slots.specs.Used.{wrongCount}
 
 -- what stands before the peers
 unfoldable pub headOctets : ℕ → List ℕ → ℕ → List ℕ

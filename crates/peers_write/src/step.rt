@@ -5,8 +5,8 @@ ghost use lib.ListN.{length};
 ghost use Prim.Native.Nat.{_+_, _-_, _≤_};
 ghost use Rattle.answer.specs.declared.Written.the-variants.{Refused};
 ghost use Rattle.octets.specs.Octets.{patch};
-ghost use Rattle.peer.specs.Peer.{peerSize};
-ghost use Rattle.peer_slots.specs.Used.{inUse};
+ghost use Rattle.peers_entry.specs.Peer.{peerSize};
+ghost use Rattle.peers_slots.specs.Used.{inUse};
 ghost use Rattle.peers_write.specs.Write.{headOctets};
 ghost use Rattle.peers_write.specs.Steps.{lessPeer, startWrite, starting};
 use crate::Left;
@@ -14,7 +14,7 @@ use crate::Start;
 use crate::Survey;
 use answer::Refusal;
 use answer::Written;
-use peer::Peer;
+use peers_entry::Peer;
 
 // A measuring before its first turn.
 pub(crate) fn begin_survey(slots: usize, count: usize, room: usize) -> Survey
@@ -25,7 +25,7 @@ pub(crate) fn begin_survey(slots: usize, count: usize, room: usize) -> Survey
             octets: room,
             unfit: false,
         },
-        count: peer_slots::in_use(slots, count),
+        count: peers_slots::in_use(slots, count),
     }
 }
 
@@ -62,7 +62,7 @@ pub(crate) fn less_peer(left: Left, p: Peer) -> Left
     }
     Left {
         octets,
-        unfit: peer::unfit_as(p),
+        unfit: peers_entry::unfit_as(p),
     }
 }
 
@@ -115,7 +115,7 @@ fn put_head(out: &mut [u8], collector: u32, view: &[u8], count: u16)
     let name = view.len();
     octets::put_be32(out, 0, collector);
     octets::put_be16(out, 4, name as u16);
-    copies::put_octets(out, 6, view);
+    octets_copies::put_octets(out, 6, view);
     octets::put_be16(out, 6 + name, count);
 }
 

@@ -2,7 +2,7 @@
 ghost use mathlib.Core.Path.{_≡_};
 ghost use lib.ListN.{length};
 ghost use Rattle.answer.specs.Writing.{wrote};
-ghost use Rattle.peer_slots.specs.Used.{inUse};
+ghost use Rattle.peers_slots.specs.Used.{inUse};
 ghost use Rattle.peers_write.specs.Write.{writePeers};
 ghost use Rattle.peers_write.specs.Steps.{leaves};
 use crate::Left;
@@ -10,7 +10,7 @@ use crate::step::begin_survey;
 use crate::step::less_peer;
 use crate::step::write_head;
 use answer::Written;
-use peer::Peer;
+use peers_entry::Peer;
 
 // What the peers in use leave of a room.
 fn measure(slots: &[Peer], count: usize, room: usize) -> Left
@@ -41,7 +41,7 @@ pub fn write_peers(
     let mut at = start.at;
     let mut i: usize = 0;
     while i < start.count {
-        at = peer::put_peer(out, at, slots[i]);
+        at = peers_entry::put_peer(out, at, slots[i]);
         i += 1;
     }
     start.answer

@@ -36,6 +36,6 @@ fn put_head(out: &mut [u8], sequence: u32, bits: u8, prefix: [u8; 16])
     let p = rib_head::clear_after(bits, prefix);
     octets::put_be32(out, 0, sequence);
     octets::put_octet(out, 4, bits);
-    copies::put_octets(out, 5, &p[..size]);
+    octets_copies::put_octets(out, 5, &p[..size]);
     octets::put_be16(out, 5 + size, 0);
 }

@@ -155,11 +155,11 @@ fn put_entry(part: &mut [u8], subtype: u16, e: NewEntry, attributes: &[u8])
 {
     let l = rib_head::layout_of(subtype);
     let size = l.path;
-    copies::store16(part, 0, e.peer);
-    copies::store32(part, 2, e.originated);
+    octets_copies::store16(part, 0, e.peer);
+    octets_copies::store32(part, 2, e.originated);
     put_path(part, subtype, 6, e.path);
-    copies::store16(part, 6 + size, attributes.len() as u16);
-    copies::put_octets(part, 8 + size, attributes);
+    octets_copies::store16(part, 6 + size, attributes.len() as u16);
+    octets_copies::put_octets(part, 8 + size, attributes);
 }
 
 // The path number, where the subtype has one.
@@ -170,5 +170,5 @@ fn put_path(part: &mut [u8], subtype: u16, at: usize, v: u32)
     if l.path == 0 {
         return;
     }
-    copies::store32(part, at, v);
+    octets_copies::store32(part, at, v);
 }

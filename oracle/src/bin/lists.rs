@@ -1,4 +1,4 @@
-//! Writes the lists of questions and answers that the proved program `crates/questions` replays: `lists FOLDER`. The
+//! Writes the lists of questions and answers that the proved program `crates/oracle_questions` replays: `lists FOLDER`. The
 //! same build writes the same lists.
 
 use mrt_oracle::asked;

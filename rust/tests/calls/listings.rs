@@ -31,7 +31,7 @@ fn the_listing_of_three_records_of_which_one_is_refused() {
 
 #[test]
 fn every_stream_of_the_repository_has_its_listing() {
-    let folder = Path::new(env!("CARGO_MANIFEST_DIR")).join("../crates/replay/data");
+    let folder = Path::new(env!("CARGO_MANIFEST_DIR")).join("../crates/oracle_replay/data");
     let paths = fs::read_dir(folder).expect("the streams stand beside this folder").map(|entry| entry.unwrap().path());
     let streams: Vec<_> = paths.filter(|path| path.extension().is_some_and(|e| e == "mrt")).collect();
     assert!(!streams.is_empty());

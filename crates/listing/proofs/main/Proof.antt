@@ -1,7 +1,7 @@
 use mathlib.Core.Path.{sym}
 use native.Mathlib.Omega.{arith}
 use lib.Seq.{length-take-le}
-use Rattle.lines.proofs.Room.{list-end-le}
+use Rattle.listing_lines.proofs.Room.{list-end-le}
 use borrow.Author.Needs.{needs}
 use Rattle.listing.proofs.main.Statement.{statement}
 use Rattle.listing.proofs.main.Tie as tie

@@ -4,8 +4,8 @@ use Prim.Native.Nat.{ℕ}
 use lib.ListN.{take, drop}
 use Rattle.header.specs.Frame.{Framing, framing}
 use Rattle.header.specs.declared.FrameAnswer.the-variants.{Refused}
-use Rattle.lent.specs.Records.{frameValues}
-use Rattle.lent.proofs.Handing.{refuses, hands}
+use Rattle.mrt_lent.specs.Records.{frameValues}
+use Rattle.mrt_lent.proofs.Handing.{refuses, hands}
 use borrow.Author.Needs.{needs}
 use Rattle.mrt_header.proofs.mrt_frame.Statement.{statement}
 use Rattle.mrt_header.proofs.mrt_frame.Tie as tie

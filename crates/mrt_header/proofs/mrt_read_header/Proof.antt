@@ -4,8 +4,8 @@ use Prim.Native.Nat.{ℕ}
 use lib.ListN.{take, drop}
 use Rattle.header.specs.Read.{Heading, values}
 use Rattle.header.specs.declared.HeaderAnswer.the-variants.{Refused}
-use Rattle.lent.specs.Records.{headValues}
-use Rattle.lent.proofs.Handing.{refuses, hands}
+use Rattle.mrt_lent.specs.Records.{headValues}
+use Rattle.mrt_lent.proofs.Handing.{refuses, hands}
 use borrow.Author.Needs.{needs}
 use Rattle.mrt_header.proofs.mrt_read_header.Statement.{statement}
 use Rattle.mrt_header.proofs.mrt_read_header.Tie as tie

@@ -1,4 +1,4 @@
-use Rattle.lent.proofs.Writing.{returns-written}
+use Rattle.mrt_lent.proofs.Writing.{returns-written}
 use borrow.Author.Needs.{needs}
 use Rattle.mrt_header.proofs.mrt_write_header.Statement.{statement}
 use Rattle.mrt_header.proofs.mrt_write_header.Tie as tie

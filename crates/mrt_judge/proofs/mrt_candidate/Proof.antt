@@ -1,8 +1,8 @@
 use mathlib.Core.Path.{refl}
 use Rattle.walk.specs.Judged.{Candidate}
-use Rattle.candidate.specs.Candidate.{candidacy}
+use Rattle.walk_candidate.specs.Candidate.{candidacy}
 use Rattle.mrt_judge.specs.Judged.{candidateValues}
-use Rattle.lent.proofs.Handing.{hands}
+use Rattle.mrt_lent.proofs.Handing.{hands}
 use Rattle.mrt_judge.proofs.Candidates.{candidate-beyond, candidate-within}
 use borrow.Author.Needs.{needs}
 use Rattle.mrt_judge.proofs.mrt_candidate.Statement.{statement}

@@ -2,10 +2,10 @@ use mathlib.Core.Path.{ap, refl}
 use mathlib.Core.List.{List}
 use Prim.Native.Nat.{ℕ}
 use lib.ListN.{take, drop}
-use Rattle.judge.specs.Record.{Judging, judging}
-use Rattle.judge.specs.declared.JudgeAnswer.the-variants.{Refused}
+use Rattle.walk_judge.specs.Record.{Judging, judging}
+use Rattle.walk_judge.specs.declared.JudgeAnswer.the-variants.{Refused}
 use Rattle.mrt_judge.specs.Judged.{judgeValues}
-use Rattle.lent.proofs.Handing.{refuses, hands}
+use Rattle.mrt_lent.proofs.Handing.{refuses, hands}
 use borrow.Author.Needs.{needs}
 use Rattle.mrt_judge.proofs.mrt_judge.Statement.{statement}
 use Rattle.mrt_judge.proofs.mrt_judge.Tie as tie

@@ -1,8 +1,8 @@
 use mathlib.Core.Path.{refl}
-use Rattle.table.specs.Table.{Heading, heading}
-use Rattle.table.specs.declared.TableAnswer.the-variants.{Refused}
+use Rattle.peers_table.specs.Table.{Heading, heading}
+use Rattle.peers_table.specs.declared.TableAnswer.the-variants.{Refused}
 use Rattle.mrt_peers_read.specs.Tables.{tableValues}
-use Rattle.lent.proofs.Handing.{refuses, hands}
+use Rattle.mrt_lent.proofs.Handing.{refuses, hands}
 use borrow.Author.Needs.{needs}
 use Rattle.mrt_peers_read.proofs.mrt_check_peers.Statement.{statement}
 use Rattle.mrt_peers_read.proofs.mrt_check_peers.Tie as tie

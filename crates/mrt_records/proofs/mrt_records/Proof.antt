@@ -1,5 +1,5 @@
 use borrow.Author.Needs.{needs}
-use Rattle.lent.proofs.Walks.{walk-short, walk-unmarked, walk-beyond, walk-full}
+use Rattle.mrt_lent.proofs.Walks.{walk-short, walk-unmarked, walk-beyond, walk-full}
 use Rattle.mrt_records.proofs.Cases.{nothing-handed, records-finished, records-taken}
 use Rattle.mrt_records.proofs.mrt_records.Statement.{statement}
 use Rattle.mrt_records.proofs.mrt_records.Tie as tie

@@ -2,7 +2,7 @@ use mathlib.Core.Path.{refl}
 use Rattle.rib_write.specs.Add.{Opening, openValues}
 use Rattle.rib_write.specs.declared.BuilderAnswer.the-variants.{Refused}
 use Rattle.mrt_rib_build.specs.Build.{openedValues}
-use Rattle.lent.proofs.Handing.{refuses, hands}
+use Rattle.mrt_lent.proofs.Handing.{refuses, hands}
 use borrow.Author.Needs.{needs}
 use Rattle.mrt_rib_build.proofs.mrt_open_rib.Statement.{statement}
 use Rattle.mrt_rib_build.proofs.mrt_open_rib.Tie as tie

@@ -2,7 +2,7 @@ use mathlib.Core.Path.{refl}
 use Rattle.rib_write.specs.Add.{Pushing, pushed}
 use Rattle.rib_write.specs.declared.BuilderAnswer.{BuilderAnswer}
 use Rattle.rib_write.specs.declared.BuilderAnswer.the-variants.{Refused}
-use Rattle.lent.proofs.Handing.{refuses, hands}
+use Rattle.mrt_lent.proofs.Handing.{refuses, hands}
 use Rattle.mrt_rib_build.specs.Build.{pushedValues}
 use Rattle.mrt_rib_build.proofs.Builds.{push-short, push-uncounted, push-answered}
 use borrow.Author.Needs.{needs}

@@ -2,7 +2,7 @@ use mathlib.Core.Path.{refl}
 use Rattle.rib_entries.specs.Entry.{Entered, entryValues as answered}
 use Rattle.rib_entries.specs.declared.EntryAnswer.the-variants.{Refused}
 use Rattle.mrt_rib_cursor.specs.Entries.{entryValues}
-use Rattle.lent.proofs.Handing.{refuses, hands}
+use Rattle.mrt_lent.proofs.Handing.{refuses, hands}
 use borrow.Author.Needs.{needs}
 use Rattle.mrt_rib_cursor.proofs.mrt_rib_entry.Statement.{statement}
 use Rattle.mrt_rib_cursor.proofs.mrt_rib_entry.Tie as tie

@@ -2,7 +2,7 @@ use mathlib.Core.Path.{refl}
 use Rattle.rib_entries.specs.Entry.{Stepped, nextValues}
 use Rattle.rib_entries.specs.declared.NextAnswer.the-variants.{Refused}
 use Rattle.mrt_rib_cursor.specs.Entries.{stepValues}
-use Rattle.lent.proofs.Handing.{refuses, hands}
+use Rattle.mrt_lent.proofs.Handing.{refuses, hands}
 use borrow.Author.Needs.{needs}
 use Rattle.mrt_rib_cursor.proofs.mrt_rib_next.Statement.{statement}
 use Rattle.mrt_rib_cursor.proofs.mrt_rib_next.Tie as tie

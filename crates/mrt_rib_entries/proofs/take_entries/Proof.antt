@@ -6,8 +6,8 @@ use borrow.Author.Needs.{needs}
 use Rattle.octets.specs.Octets.{patch}
 use Rattle.octets.proofs.Stores.{length-patch}
 use Rattle.octets.proofs.Parts.{patch-lent}
-use Rattle.lent.specs.Rows.{rowsFrom, rowsOut}
-use Rattle.lent.proofs.Rows.{comesTo, rows-start, rows-turn, rows-full, rows-none}
+use Rattle.mrt_lent.specs.Rows.{rowsFrom, rowsOut}
+use Rattle.mrt_lent.proofs.Rows.{comesTo, rows-start, rows-turn, rows-full, rows-none}
 use Rattle.mrt_rib_entries.specs.Entries.{entryAt}
 use Rattle.mrt_rib_entries.proofs.Cases.{entry-found}
 use Rattle.mrt_rib_entries.proofs.take_entries.Statement.{statement}

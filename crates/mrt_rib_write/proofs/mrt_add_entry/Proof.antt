@@ -1,4 +1,4 @@
-use Rattle.lent.proofs.Writing.{returns-written}
+use Rattle.mrt_lent.proofs.Writing.{returns-written}
 use borrow.Author.Needs.{needs}
 use Rattle.mrt_rib_write.proofs.mrt_add_entry.Statement.{statement}
 use Rattle.mrt_rib_write.proofs.mrt_add_entry.Tie as tie

@@ -1,6 +1,6 @@
 use Rattle.answer.specs.declared.Refusal.the-variants.{Beyond}
 use Rattle.answer.specs.declared.Written.the-variants.{Refused}
-use Rattle.lent.proofs.Writing.{returns-written}
+use Rattle.mrt_lent.proofs.Writing.{returns-written}
 use Rattle.mrt_rib_write.proofs.Begins.{begin-short, begin-whole}
 use borrow.Author.Needs.{needs}
 use Rattle.mrt_rib_write.proofs.mrt_begin_rib.Statement.{statement}

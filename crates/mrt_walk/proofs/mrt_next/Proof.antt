@@ -1,7 +1,7 @@
 use mathlib.Core.Path.{sym, _∙_, ap}
 use Rattle.octets.specs.Octets.{patch}
-use Rattle.judge.specs.Record.{judged}
-use Rattle.lent.proofs.Walks.{walk-short, walk-unmarked, walk-beyond, walk-full}
+use Rattle.walk_judge.specs.Record.{judged}
+use Rattle.mrt_lent.proofs.Walks.{walk-short, walk-unmarked, walk-beyond, walk-full}
 use Rattle.mrt_walk.proofs.Walks.{next-stepped, next-handed}
 use borrow.Author.Needs.{needs}
 use Rattle.mrt_walk.proofs.mrt_next.Statement.{statement}

@@ -1,4 +1,4 @@
-use Rattle.recover.specs.Answers.{said}
+use Rattle.walk_step.specs.Answers.{said}
 use Rattle.mrt_walk.proofs.Walks.{moved-stored}
 use borrow.Author.Needs.{needs}
 use Rattle.mrt_walk.proofs.take_step.Statement.{statement}

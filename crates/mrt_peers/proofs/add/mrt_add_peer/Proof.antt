@@ -39,12 +39,12 @@ use denote.Triple.Table.{entered, cited}
 use denote.Triple.Walked.{says, Stays, stay-dropped, gave-slice, walkOf, goes-dropped, goes-gave-slice, Walks, ends-at, walked, walk-meets}
 use denote.Triple.Clauses.{lasts}
 use denote.Exit.{yes}
-use Rattle.peer.specs.declared.Peer.{Peer}
-use Rattle.peer.proofs.Peer as T
-use Rattle.peer.proofs.Peer.Laws as T′
+use Rattle.peers_entry.specs.declared.Peer.{Peer}
+use Rattle.peers_entry.proofs.Peer as T
+use Rattle.peers_entry.proofs.Peer.Laws as T′
 use Rattle.peers_add.specs.Add.{adding, addPeer}
 use Rattle.peers_add.specs.declared.AddAnswer.{AddAnswer}
-use Rattle.peer_slots.proofs.Shape.{vals}
+use Rattle.peers_slots.proofs.Shape.{vals}
 use Rattle.peers_add.proofs.AddAnswer as B
 use Rattle.peers_add.proofs.AddAnswer.Laws as B′
 use Rattle.peers_add.proofs.add_peer as add′
@@ -68,7 +68,7 @@ use Rattle.mrt_peers.proofs.add.added_as as as′
 use Rattle.mrt_peers.proofs.add.added_as.Symbol as as-def
 use Rattle.mrt_peers.proofs.add.added_as.Symbol.{name as #added-as}
 use Rattle.mrt_peers.proofs.add.added_as.Met as as-thm
-use Rattle.peer_slots.proofs.Calls.{freely, asks, asks-fact}
+use Rattle.peers_slots.proofs.Calls.{freely, asks, asks-fact}
 use Rattle.mrt_peers.proofs.add.mrt_add_peer.Key.{name as #mrt-add-peer}
 use Rattle.mrt_peers.proofs.add.mrt_add_peer as mrt′
 use Rattle.mrt_peers.proofs.add.mrt_add_peer.Statement as stated

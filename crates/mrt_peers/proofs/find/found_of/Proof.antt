@@ -1,8 +1,8 @@
 use mathlib.Core.Path.{sym, _∙_, ap}
 use Prim.Native.Nat.{ℕ}
 use borrow.Author.Needs.{needs}
-use Rattle.peers.specs.Find.{finding, lost}
-use Rattle.peers.specs.declared.FindAnswer.{FindAnswer}
+use Rattle.peers_find.specs.Find.{finding, lost}
+use Rattle.peers_find.specs.declared.FindAnswer.{FindAnswer}
 use Rattle.mrt_peers.specs.Find.{foundOf}
 use Rattle.mrt_peers.proofs.find.found_of.Statement.{statement}
 use Rattle.mrt_peers.proofs.find.found_of.Tie as tie

@@ -39,16 +39,16 @@ use denote.Triple.Spec.{Meets, tripleOf}
 use denote.Triple.Table.{entered, cited}
 use denote.Triple.Walked.{says, Stays, stay-dropped, walkOf, goes-dropped, Walks, ends-at, walked, walk-meets}
 use denote.Exit.{yes}
-use Rattle.peer.specs.declared.Peer.{Peer}
-use Rattle.peer.proofs.Peer as T
-use Rattle.peers.specs.Find.{finding, findPeer}
-use Rattle.peers.specs.declared.FindAnswer.{FindAnswer}
-use Rattle.peers.proofs.FindAnswer as F
-use Rattle.peers.proofs.FindAnswer.Laws as F′
-use Rattle.peers.proofs.find_peer as find′
-use Rattle.peers.proofs.find_peer.Symbol as find-def
-use Rattle.peers.proofs.find_peer.Symbol.{name as #find-peer}
-use Rattle.peers.proofs.find_peer.Met as find-thm
+use Rattle.peers_entry.specs.declared.Peer.{Peer}
+use Rattle.peers_entry.proofs.Peer as T
+use Rattle.peers_find.specs.Find.{finding, findPeer}
+use Rattle.peers_find.specs.declared.FindAnswer.{FindAnswer}
+use Rattle.peers_find.proofs.FindAnswer as F
+use Rattle.peers_find.proofs.FindAnswer.Laws as F′
+use Rattle.peers_find.proofs.find_peer as find′
+use Rattle.peers_find.proofs.find_peer.Symbol as find-def
+use Rattle.peers_find.proofs.find_peer.Symbol.{name as #find-peer}
+use Rattle.peers_find.proofs.find_peer.Met as find-thm
 use Rattle.mrt_peers.specs.Given.{keyFor}
 use Rattle.mrt_peers.specs.Find.{foundOf, findOut}
 use Rattle.mrt_peers.specs.declared.Key.{Key}
@@ -66,7 +66,7 @@ use Rattle.mrt_peers.proofs.find.found_of as of′
 use Rattle.mrt_peers.proofs.find.found_of.Symbol as of-def
 use Rattle.mrt_peers.proofs.find.found_of.Symbol.{name as #found-of}
 use Rattle.mrt_peers.proofs.find.found_of.Met as of-thm
-use Rattle.peer_slots.proofs.Calls.{freely, asks-fact}
+use Rattle.peers_slots.proofs.Calls.{freely, asks-fact}
 use Rattle.mrt_peers.proofs.find.mrt_find_peer.Key.{name as #mrt-find-peer}
 use Rattle.mrt_peers.proofs.find.mrt_find_peer as mrt′
 use Rattle.mrt_peers.proofs.find.mrt_find_peer.Statement as stated
@@ -133,7 +133,7 @@ module _ {M : Type 1} (𝓤 : URA M) (H : Heap 𝓤) (A : Atoms 𝓤) (W : Given
   abbrev keyed : Key → Type 0
   keyed k = k ≡ keyFor count kind (d .now)
 
-  -- ---- the call of `peers::find_peer`
+  -- ---- the call of `peers_find::find_peer`
   abbrev givenF : Key → RefT (List Peer) × (ℕ × (Bool × (List ℕ × Unit {0})))
   givenF k = (s, (k .count, (k .v6, (octets k, tt))))
 
@@ -251,7 +251,7 @@ mrt-find-peer-spec 𝓤 H 𝓜 𝓖 𝓡 =
     (find-meets 𝓤 H (𝓖 .A) (givenOf 𝓤 H 𝓜 𝓖) (𝓜 .mem) (𝓡 .run) (tablesOf 𝓤 H 𝓜 (tables 𝓤 H 𝓜 𝓡 code.env))
     (cited 𝓤 H (Keys 𝓤 H (𝓖 .A) (𝓜 .mem) (𝓡 .run)) 𝓜 𝓡 code.env #key-for key-def.routine code.calls-mrt-peers·given·key-for
     (key-thm.met 𝓤 H 𝓜 𝓖 𝓡))
-    (cited 𝓤 H (Finds 𝓤 H (𝓖 .A) (𝓜 .mem) (𝓡 .run)) 𝓜 𝓡 code.env #find-peer find-def.routine code.calls-peers·find-peer
+    (cited 𝓤 H (Finds 𝓤 H (𝓖 .A) (𝓜 .mem) (𝓡 .run)) 𝓜 𝓡 code.env #find-peer find-def.routine code.calls-peers-find·find-peer
     (find-thm.met 𝓤 H 𝓜 𝓖 𝓡))
     (cited 𝓤 H (Ofs 𝓤 H (𝓖 .A) (𝓜 .mem) (𝓡 .run)) 𝓜 𝓡 code.env #found-of of-def.routine code.calls-mrt-peers·find·found-of
     (of-thm.met 𝓤 H 𝓜 𝓖 𝓡)))

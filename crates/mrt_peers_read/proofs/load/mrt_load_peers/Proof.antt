@@ -38,12 +38,12 @@ use denote.Triple.Table.{entered, cited}
 use denote.Triple.Walked.{says, Stays, stay-dropped, gave-slice, walkOf, goes-dropped, goes-gave-slice, Walks, ends-at, walked, walk-meets}
 use denote.Triple.Clauses.{lasts}
 use denote.Exit.{yes}
-use Rattle.table.specs.Table.{heading}
-use Rattle.peer.specs.declared.Peer.{Peer}
-use Rattle.table.specs.declared.TableAnswer.{TableAnswer}
-use Rattle.peer.proofs.Peer as T
-use Rattle.table.proofs.TableAnswer as B
-use Rattle.table.proofs.TableAnswer.Laws as B′
+use Rattle.peers_table.specs.Table.{heading}
+use Rattle.peers_entry.specs.declared.Peer.{Peer}
+use Rattle.peers_table.specs.declared.TableAnswer.{TableAnswer}
+use Rattle.peers_entry.proofs.Peer as T
+use Rattle.peers_table.proofs.TableAnswer as B
+use Rattle.peers_table.proofs.TableAnswer.Laws as B′
 use Rattle.peers_read.specs.Load.{loading, loadPeers}
 use Rattle.peers_read.proofs.load_peers as load′
 use Rattle.peers_read.proofs.load_peers.Symbol as load-def
@@ -55,7 +55,7 @@ use Rattle.mrt_peers_read.proofs.load.number_of as of′
 use Rattle.mrt_peers_read.proofs.load.number_of.Symbol as of-def
 use Rattle.mrt_peers_read.proofs.load.number_of.Symbol.{name as #number-of}
 use Rattle.mrt_peers_read.proofs.load.number_of.Met as of-thm
-use Rattle.peer_slots.proofs.Calls.{freely, asks, asks-fact}
+use Rattle.peers_slots.proofs.Calls.{freely, asks, asks-fact}
 use Rattle.mrt_peers_read.proofs.load.mrt_load_peers.Key.{name as #mrt-load-peers}
 use Rattle.mrt_peers_read.proofs.load.mrt_load_peers as mrt′
 use Rattle.mrt_peers_read.proofs.load.mrt_load_peers.Statement as stated

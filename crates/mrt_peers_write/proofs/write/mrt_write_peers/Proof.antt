@@ -43,23 +43,23 @@ use Rattle.answer.specs.Writing.{wrote}
 use Rattle.answer.specs.declared.Written.{Written}
 use Rattle.answer.proofs.Written as B
 use Rattle.answer.proofs.Written.Laws as B′
-use Rattle.lent.specs.Writer.{wroteOf, writtenOut}
-use Rattle.lent.specs.declared.Wrote.{Wrote}
-use Rattle.lent.proofs.Writing.{returns-written}
-use Rattle.lent.proofs.Wrote as R
-use Rattle.lent.proofs.Wrote.Laws as R′
-use Rattle.lent.proofs.wrote_of as of′
-use Rattle.lent.proofs.wrote_of.Symbol as of-def
-use Rattle.lent.proofs.wrote_of.Symbol.{name as #wrote-of}
-use Rattle.lent.proofs.wrote_of.Met as of-thm
-use Rattle.peer.specs.declared.Peer.{Peer}
-use Rattle.peer.proofs.Peer as T
+use Rattle.mrt_lent.specs.Writer.{wroteOf, writtenOut}
+use Rattle.mrt_lent.specs.declared.Wrote.{Wrote}
+use Rattle.mrt_lent.proofs.Writing.{returns-written}
+use Rattle.mrt_lent.proofs.Wrote as R
+use Rattle.mrt_lent.proofs.Wrote.Laws as R′
+use Rattle.mrt_lent.proofs.wrote_of as of′
+use Rattle.mrt_lent.proofs.wrote_of.Symbol as of-def
+use Rattle.mrt_lent.proofs.wrote_of.Symbol.{name as #wrote-of}
+use Rattle.mrt_lent.proofs.wrote_of.Met as of-thm
+use Rattle.peers_entry.specs.declared.Peer.{Peer}
+use Rattle.peers_entry.proofs.Peer as T
 use Rattle.peers_write.specs.Write.{writePeers}
 use Rattle.peers_write.proofs.write_peers as write′
 use Rattle.peers_write.proofs.write_peers.Symbol as write-def
 use Rattle.peers_write.proofs.write_peers.Symbol.{name as #write-peers}
 use Rattle.peers_write.proofs.write_peers.Met as write-thm
-use Rattle.peer_slots.proofs.Calls.{freely, asks, asks-fact}
+use Rattle.peers_slots.proofs.Calls.{freely, asks, asks-fact}
 use Rattle.mrt_peers_write.proofs.write.mrt_write_peers.Key.{name as #mrt-write-peers}
 use Rattle.mrt_peers_write.proofs.write.mrt_write_peers as mrt′
 use Rattle.mrt_peers_write.proofs.write.mrt_write_peers.Statement as stated
@@ -124,7 +124,7 @@ module _ {M : Type 1} (𝓤 : URA M) (H : Heap 𝓤) (A : Atoms 𝓤) (W : Given
   abbrev written : Written → List ℕ → Type 0
   written r l = wrote r l ≡ writePeers os collector (vs .now) (s .now) count
 
-  -- ---- the call of `lent::wrote_of`
+  -- ---- the call of `mrt_lent::wrote_of`
   abbrev toO : Written → Ofs 𝓤 H A at-mem run .Ghost
   toO r = ((tt, tt, tt, (r, tt), (lowB r ∷ [], tt)), tt)
 
@@ -241,5 +241,5 @@ mrt-write-peers-spec 𝓤 H 𝓜 𝓖 𝓡 =
     (write-meets 𝓤 H (𝓖 .A) (givenOf 𝓤 H 𝓜 𝓖) (𝓜 .mem) (𝓡 .run) (tablesOf 𝓤 H 𝓜 (tables 𝓤 H 𝓜 𝓡 code.env))
     (cited 𝓤 H (Writes 𝓤 H (𝓖 .A) (𝓜 .mem) (𝓡 .run)) 𝓜 𝓡 code.env #write-peers write-def.routine code.calls-peers-write·write-peers
     (write-thm.met 𝓤 H 𝓜 𝓖 𝓡))
-    (cited 𝓤 H (Ofs 𝓤 H (𝓖 .A) (𝓜 .mem) (𝓡 .run)) 𝓜 𝓡 code.env #wrote-of of-def.routine code.calls-lent·wrote-of
+    (cited 𝓤 H (Ofs 𝓤 H (𝓖 .A) (𝓜 .mem) (𝓡 .run)) 𝓜 𝓡 code.env #wrote-of of-def.routine code.calls-mrt-lent·wrote-of
     (of-thm.met 𝓤 H 𝓜 𝓖 𝓡)))

@@ -50,32 +50,32 @@ use denote.Triple.Table.{entered, cited}
 use denote.Triple.Walked.{says, Stays, stay-none, stay-slice, walkOf, goes-none, goes-slice, Walks, ends-at, walked, walk-meets}
 use denote.Triple.Clauses.{ensured, lasts}
 use denote.Exit.{yes}
-use Rattle.peer.specs.Peer.{nobody, stored}
-use Rattle.peer.specs.declared.Peer.{Peer}
-use Rattle.peer.proofs.Peer as T
-use Rattle.peer.proofs.Peer.Laws as T′
-use Rattle.peer.proofs.stored_peer as store′
-use Rattle.peer.proofs.stored_peer.Symbol as store-def
-use Rattle.peer.proofs.stored_peer.Symbol.{name as #stored-peer}
-use Rattle.peer.proofs.stored_peer.Met as store-thm
-use Rattle.peers.specs.Find.{finding, lookUp}
+use Rattle.peers_entry.specs.Peer.{nobody, stored}
+use Rattle.peers_entry.specs.declared.Peer.{Peer}
+use Rattle.peers_entry.proofs.Peer as T
+use Rattle.peers_entry.proofs.Peer.Laws as T′
+use Rattle.peers_entry.proofs.stored_peer as store′
+use Rattle.peers_entry.proofs.stored_peer.Symbol as store-def
+use Rattle.peers_entry.proofs.stored_peer.Symbol.{name as #stored-peer}
+use Rattle.peers_entry.proofs.stored_peer.Met as store-thm
+use Rattle.peers_find.specs.Find.{finding, lookUp}
 use Rattle.peers_add.specs.Add.{Adding, adding, addPeer}
 use Rattle.peers_add.specs.Steps.{placeOf}
-use Rattle.peers.specs.declared.FindAnswer.{FindAnswer}
+use Rattle.peers_find.specs.declared.FindAnswer.{FindAnswer}
 use Rattle.peers_add.specs.declared.AddAnswer.{AddAnswer}
 use Rattle.peers_add.specs.declared.Place.{Place}
-use Rattle.peer_slots.proofs.Shape.{stride, vals, low, word, lentSlots}
+use Rattle.peers_slots.proofs.Shape.{stride, vals, low, word, lentSlots}
 use Rattle.peers_add.proofs.Adds.{add-stored, add-kept}
-use Rattle.peers.proofs.FindAnswer as F
-use Rattle.peers.proofs.FindAnswer.Laws as F′
+use Rattle.peers_find.proofs.FindAnswer as F
+use Rattle.peers_find.proofs.FindAnswer.Laws as F′
 use Rattle.peers_add.proofs.AddAnswer as D
 use Rattle.peers_add.proofs.AddAnswer.Laws as D′
 use Rattle.peers_add.proofs.Place as P
 use Rattle.peers_add.proofs.Place.Laws as P′
-use Rattle.peers.proofs.look_up as look′
-use Rattle.peers.proofs.look_up.Symbol as look-def
-use Rattle.peers.proofs.look_up.Symbol.{name as #look-up}
-use Rattle.peers.proofs.look_up.Met as look-thm
+use Rattle.peers_find.proofs.look_up as look′
+use Rattle.peers_find.proofs.look_up.Symbol as look-def
+use Rattle.peers_find.proofs.look_up.Symbol.{name as #look-up}
+use Rattle.peers_find.proofs.look_up.Met as look-thm
 use Rattle.peers_add.proofs.step.place as place′
 use Rattle.peers_add.proofs.step.place.Symbol as place-def
 use Rattle.peers_add.proofs.step.place.Symbol.{name as #place}
@@ -433,9 +433,9 @@ add-peer-spec 𝓤 H 𝓜 𝓖 𝓡 =
     entered 𝓤 H (tripleOf 𝓤 H (𝓖 .A) add′.signature (add′.spec 𝓤 H (𝓖 .A) (𝓜 .mem) (𝓡 .run)))
     (tables 𝓤 H 𝓜 𝓡 code.env .C) (tables 𝓤 H 𝓜 𝓡 code.env .Λ) #add-peer code.function (code.unfolded 𝓤 H 𝓜 𝓡)
     (add-meets 𝓤 H (𝓖 .A) (givenOf 𝓤 H 𝓜 𝓖) (𝓜 .mem) (𝓡 .run) (tablesOf 𝓤 H 𝓜 (tables 𝓤 H 𝓜 𝓡 code.env))
-    (cited 𝓤 H (Look 𝓤 H (𝓖 .A) (𝓜 .mem) (𝓡 .run)) 𝓜 𝓡 code.env #look-up look-def.routine code.calls-peers·look-up
+    (cited 𝓤 H (Look 𝓤 H (𝓖 .A) (𝓜 .mem) (𝓡 .run)) 𝓜 𝓡 code.env #look-up look-def.routine code.calls-peers-find·look-up
     (look-thm.met 𝓤 H 𝓜 𝓖 𝓡))
     (cited 𝓤 H (Places 𝓤 H (𝓖 .A) (𝓜 .mem) (𝓡 .run)) 𝓜 𝓡 code.env #place place-def.routine code.calls-peers-add·step·place
     (place-thm.met 𝓤 H 𝓜 𝓖 𝓡))
-    (cited 𝓤 H (Store 𝓤 H (𝓖 .A) (𝓜 .mem) (𝓡 .run)) 𝓜 𝓡 code.env #stored-peer store-def.routine code.calls-peer·stored-peer
+    (cited 𝓤 H (Store 𝓤 H (𝓖 .A) (𝓜 .mem) (𝓡 .run)) 𝓜 𝓡 code.env #stored-peer store-def.routine code.calls-peers-entry·stored-peer
     (store-thm.met 𝓤 H 𝓜 𝓖 𝓡)))

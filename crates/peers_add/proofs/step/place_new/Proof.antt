@@ -1,4 +1,4 @@
-use Rattle.peer_slots.proofs.Counts.{wrong-slots, wrong-large, right}
+use Rattle.peers_slots.proofs.Counts.{wrong-slots, wrong-large, right}
 use Rattle.peers_add.proofs.Steps.{both, place-wrong, place-last, place-full, place-free}
 use mathlib.Core.Path.{_∙_}
 use borrow.Author.Needs.{needs}

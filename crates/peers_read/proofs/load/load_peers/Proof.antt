@@ -51,25 +51,25 @@ use denote.Triple.Table.{entered, cited}
 use denote.Triple.Walked.{says, Stays, stay-none-slice, stay-slice, walkOf, goes-none-slice, goes-slice, Walks, ends-at, walked, walk-meets}
 use denote.Triple.Clauses.{ensured, lasts}
 use denote.Exit.{yes}
-use Rattle.peer.specs.Peer.{nobody, reading, readPeer}
-use Rattle.table.specs.Table.{heading, endAt}
-use Rattle.peer.specs.declared.Peer.{Peer}
-use Rattle.peer.specs.declared.PeerRead.{PeerRead}
-use Rattle.table.specs.declared.TableAnswer.{TableAnswer}
-use Rattle.table.proofs.Tables.{end-none}
-use Rattle.peer.proofs.Peer as T
-use Rattle.peer.proofs.Peer.Laws as T′
-use Rattle.peer.proofs.PeerRead as G
-use Rattle.peer.proofs.PeerRead.Laws as G′
-use Rattle.table.proofs.TableAnswer as B
-use Rattle.table.proofs.TableAnswer.Laws as B′
-use Rattle.peer.proofs.read_peer as reads
-use Rattle.peer.proofs.read_peer.Symbol as reads-def
-use Rattle.peer.proofs.read_peer.Symbol.{name as #read-peer}
-use Rattle.peer.proofs.read_peer.Met as reads-thm
+use Rattle.peers_entry.specs.Peer.{nobody, reading, readPeer}
+use Rattle.peers_table.specs.Table.{heading, endAt}
+use Rattle.peers_entry.specs.declared.Peer.{Peer}
+use Rattle.peers_entry.specs.declared.PeerRead.{PeerRead}
+use Rattle.peers_table.specs.declared.TableAnswer.{TableAnswer}
+use Rattle.peers_table.proofs.Tables.{end-none}
+use Rattle.peers_entry.proofs.Peer as T
+use Rattle.peers_entry.proofs.Peer.Laws as T′
+use Rattle.peers_entry.proofs.PeerRead as G
+use Rattle.peers_entry.proofs.PeerRead.Laws as G′
+use Rattle.peers_table.proofs.TableAnswer as B
+use Rattle.peers_table.proofs.TableAnswer.Laws as B′
+use Rattle.peers_entry.proofs.read_peer as reads
+use Rattle.peers_entry.proofs.read_peer.Symbol as reads-def
+use Rattle.peers_entry.proofs.read_peer.Symbol.{name as #read-peer}
+use Rattle.peers_entry.proofs.read_peer.Met as reads-thm
 use Rattle.peers_read.specs.Load.{filled, headFor, loadPeers, loading}
 use Rattle.peers_read.specs.declared.Plan.{Plan}
-use Rattle.peer_slots.proofs.Shape.{stride, vals, low, word, sharedOctets, lentSlots}
+use Rattle.peers_slots.proofs.Shape.{stride, vals, low, word, sharedOctets, lentSlots}
 use Rattle.peers_read.proofs.Loads.{head-le, head-within, filled-none, filled-turn, load-is}
 use Rattle.peers_read.proofs.Plan as P
 use Rattle.peers_read.proofs.Plan.Laws as P′
@@ -417,5 +417,5 @@ load-peers-spec 𝓤 H 𝓜 𝓖 𝓡 =
     (load-meets 𝓤 H (𝓖 .A) (givenOf 𝓤 H 𝓜 𝓖) (𝓜 .mem) (𝓡 .run) (tablesOf 𝓤 H 𝓜 (tables 𝓤 H 𝓜 𝓡 code.env))
     (cited 𝓤 H (Plans 𝓤 H (𝓖 .A) (𝓜 .mem) (𝓡 .run)) 𝓜 𝓡 code.env #plan-load plans-def.routine code.calls-peers-read·load·plan-load
     (plans-thm.met 𝓤 H 𝓜 𝓖 𝓡))
-    (cited 𝓤 H (Reads 𝓤 H (𝓖 .A) (𝓜 .mem) (𝓡 .run)) 𝓜 𝓡 code.env #read-peer reads-def.routine code.calls-peer·read-peer
+    (cited 𝓤 H (Reads 𝓤 H (𝓖 .A) (𝓜 .mem) (𝓡 .run)) 𝓜 𝓡 code.env #read-peer reads-def.routine code.calls-peers-entry·read-peer
     (reads-thm.met 𝓤 H 𝓜 𝓖 𝓡)))

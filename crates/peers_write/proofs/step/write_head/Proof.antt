@@ -1,4 +1,4 @@
-use Rattle.peer_slots.proofs.Counts.{wrong-slots, wrong-large, right}
+use Rattle.peers_slots.proofs.Counts.{wrong-slots, wrong-large, right}
 use Rattle.peers_write.proofs.Steps.{not-start, start-wrong, start-name, start-unfit, start-small}
 use Rattle.peers_write.proofs.Steps.{start-false, start-whole}
 use mathlib.Core.Path.{_∙_}

@@ -49,16 +49,16 @@ use denote.Triple.Table.{entered, cited}
 use denote.Triple.Walked.{says, Stays, stay-none, stay-none-slice, walkOf, goes-none, goes-none-slice, Walks, ends-at, walked, walk-meets}
 use denote.Triple.Clauses.{ensured, lasts}
 use denote.Exit.{yes}
-use Rattle.peer.specs.Peer.{nobody}
-use Rattle.peer.specs.declared.Peer.{Peer}
-use Rattle.peer.proofs.Peer as T
-use Rattle.peer.proofs.Peer.Laws as T′
-use Rattle.peer_slots.specs.Used.{inUse}
+use Rattle.peers_entry.specs.Peer.{nobody}
+use Rattle.peers_entry.specs.declared.Peer.{Peer}
+use Rattle.peers_entry.proofs.Peer as T
+use Rattle.peers_entry.proofs.Peer.Laws as T′
+use Rattle.peers_slots.specs.Used.{inUse}
 use Rattle.peers_write.specs.Steps.{leaves, lessPeer}
 use Rattle.peers_write.specs.declared.Left.{Left}
 use Rattle.peers_write.specs.declared.Survey.{Survey}
-use Rattle.peer_slots.proofs.Shape.{stride, vals, word, sharedSlots}
-use Rattle.peer_slots.proofs.Counts.{used-le}
+use Rattle.peers_slots.proofs.Shape.{stride, vals, word, sharedSlots}
+use Rattle.peers_slots.proofs.Counts.{used-le}
 use Rattle.peers_write.proofs.Writes.{leaves-none, leaves-turn, leaves-done}
 use Rattle.peers_write.proofs.Left as F
 use Rattle.peers_write.proofs.Left.Laws as F′

@@ -59,20 +59,20 @@ use Rattle.answer.specs.declared.Written.{Written}
 use Rattle.answer.proofs.Written as R
 use Rattle.answer.proofs.Written.Laws as R′
 use Rattle.octets.specs.Octets.{patch}
-use Rattle.peer.specs.Peer.{nobody, putPeer}
-use Rattle.peer.specs.declared.Peer.{Peer}
-use Rattle.peer.proofs.Peer as T
-use Rattle.peer.proofs.Peer.Laws as T′
-use Rattle.peer.proofs.put_peer as put′
-use Rattle.peer.proofs.put_peer.Symbol as put-def
-use Rattle.peer.proofs.put_peer.Symbol.{name as #put-peer}
-use Rattle.peer.proofs.put_peer.Met as put-thm
+use Rattle.peers_entry.specs.Peer.{nobody, putPeer}
+use Rattle.peers_entry.specs.declared.Peer.{Peer}
+use Rattle.peers_entry.proofs.Peer as T
+use Rattle.peers_entry.proofs.Peer.Laws as T′
+use Rattle.peers_entry.proofs.put_peer as put′
+use Rattle.peers_entry.proofs.put_peer.Symbol as put-def
+use Rattle.peers_entry.proofs.put_peer.Symbol.{name as #put-peer}
+use Rattle.peers_entry.proofs.put_peer.Met as put-thm
 use Rattle.peers_write.specs.Write.{peersOctets, writePeers}
-use Rattle.peer_slots.specs.Used.{inUse}
+use Rattle.peers_slots.specs.Used.{inUse}
 use Rattle.peers_write.specs.Steps.{sizes, leaves, starting, startWrite}
 use Rattle.peers_write.specs.declared.Left.{Left}
 use Rattle.peers_write.specs.declared.Start.{Start}
-use Rattle.peer_slots.proofs.Shape.{stride, vals, low, word, sharedSlots, sharedOctets, lentOctets}
+use Rattle.peers_slots.proofs.Shape.{stride, vals, low, word, sharedSlots, sharedOctets, lentOctets}
 use Rattle.peers_write.proofs.Again.{LentAgain, lends-at, back-at}
 use Rattle.peers_write.proofs.Writes.{written-none, written-turn, write-held, write-room, write-is}
 use Rattle.peers_write.proofs.Left as F
@@ -668,4 +668,4 @@ write-peers-spec 𝓤 H 𝓜 𝓖 𝓡 =
     (measure-thm.met 𝓤 H 𝓜 𝓖 𝓡))
     (cited 𝓤 H (Head 𝓤 H (𝓖 .A) (𝓜 .mem) (𝓡 .run)) 𝓜 𝓡 code.env #write-head head-def.routine code.calls-peers-write·step·write-head
     (head-thm.met 𝓤 H 𝓜 𝓖 𝓡))
-    (cited 𝓤 H (Put 𝓤 H (𝓖 .A) (𝓜 .mem) (𝓡 .run)) 𝓜 𝓡 code.env #put-peer put-def.routine code.calls-peer·put-peer (put-thm.met 𝓤 H 𝓜 𝓖 𝓡)))
+    (cited 𝓤 H (Put 𝓤 H (𝓖 .A) (𝓜 .mem) (𝓡 .run)) 𝓜 𝓡 code.env #put-peer put-def.routine code.calls-peers-entry·put-peer (put-thm.met 𝓤 H 𝓜 𝓖 𝓡)))

@@ -1,0 +1,12 @@
+use Rattle.octets_copies.proofs.Rooms.{room-none, room-rest}
+use Rattle.octets_copies.proofs.has_room.Statement.{statement}
+use Rattle.octets_copies.proofs.has_room.Tie as tie
+
+returns : tie.Need-returns
+returns c = room-none _ _ _ (c .if1 .taken)
+
+returns-2 : tie.Need-returns-2
+returns-2 c = room-rest _ _ _ (c .if1 .left)
+
+pub has-room-spec : {M : Type 1} → statement M
+has-room-spec = tie.close (tie.spec returns returns-2)

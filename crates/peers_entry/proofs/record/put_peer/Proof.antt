@@ -1,0 +1,88 @@
+use mathlib.Core.Path.{_≡_, ap, _∙_}
+use lib.ListN.{length}
+use native.Mathlib.Omega.{arith}
+use Rattle.octets.proofs.Stores.{length-patch}
+use Rattle.peers_entry.proofs.Sizes.{address-le, size-is}
+use Rattle.peers_entry.proofs.Records.{put-small, put-late, put-whole}
+use borrow.Author.Needs.{needs}
+use Rattle.peers_entry.proofs.record.put_peer.Statement.{statement}
+use Rattle.peers_entry.proofs.record.put_peer.Tie as tie
+
+peer-size-requires : tie.Need-peer-size-requires
+peer-size-requires c κs = search needs
+
+returns : tie.Need-returns
+returns c = put-small _ _ _ (c .before .peer-size .ensures) (c .if1 .taken)
+
+returns-2 : tie.Need-returns-2
+returns-2 c = put-late _ _ _ (c .before .before .peer-size .ensures) (c .before .if1 .left) (c .if2 .taken)
+
+address-size-requires : tie.Need-address-size-requires
+address-size-requires c κs = search needs
+
+put-octet-requires : tie.Need-put-octet-requires
+put-octet-requires c κs = search needs
+
+add-store32 : tie.Need-add-store32
+add-store32 c = search needs
+
+store32-requires : tie.Need-store32-requires
+store32-requires c κs = search needs
+
+add-front : tie.Need-add-front
+add-front c = search needs
+
+slice-aggregate-put-address : tie.Need-slice-aggregate-put-address
+slice-aggregate-put-address c = search needs
+
+put-address-requires : tie.Need-put-address-requires
+put-address-requires c κs =
+    let start = c .before .before .before .before .before .before .before .before .before .before .before .before .before .before .before .before .args in
+    let e : 16 ≡ length (start .p .addr) = slice-aggregate-put-address c in (
+      omega (arith, size-is (start .p .kind), ap length (c .before .before .before .before .before .store32 .ensures) ∙ length-patch _ _ _, ap length (c .before .before .before .before .before .before .before .before .before .put-octet .ensures) ∙ length-patch _ _ _),
+      omega (arith, address-le (start .p .kind)),
+    )
+
+add-put-as : tie.Need-add-put-as
+add-put-as c =
+    let start = c .before .before .before .before .before .before .before .before .before .before .before .before .before .before .before .before .before .before .before .before .args in
+    omega (arith, address-le (start .p .kind), size-is (start .p .kind))
+
+put-as-requires : tie.Need-put-as-requires
+put-as-requires c κs =
+    let start = c .before .before .before .before .before .before .before .before .before .before .before .before .before .before .before .before .before .before .before .before .args in
+    omega (arith, size-is (start .p .kind), ap length (c .before .before .before .put-address .ensures) ∙ length-patch _ _ _, ap length (c .before .before .before .before .before .before .before .before .before .store32 .ensures) ∙ length-patch _ _ _, ap length (c .before .before .before .before .before .before .before .before .before .before .before .before .before .put-octet .ensures) ∙ length-patch _ _ _)
+
+add-result : tie.Need-add-result
+add-result c = search needs
+
+same-length : tie.Need-same-length
+same-length c = search needs
+
+returns-3 : tie.Need-returns-3
+returns-3 c =
+    let at-word = c .before .before .before .before .before .before .before .before .before .before .before .before in
+    let at-octet = at-word .before .before .before .before in
+    let at-if2 = at-octet .before .before .before in
+    put-whole _ _ _ (at-if2 .before .before .peer-size .ensures) (at-if2 .before .if1 .left) (at-if2 .if2 .left) (at-octet .before .before .address-size .ensures)
+    (at-octet .put-octet .ensures) (at-word .store32 .ensures) (c .before .before .before .before .before .before .put-address .ensures) (c .before .before .put-as .ensures)
+
+pub put-peer-spec : {M : Type 1} → statement M
+put-peer-spec =
+    tie.close
+    (tie.spec
+    peer-size-requires
+    returns
+    returns-2
+    address-size-requires
+    put-octet-requires
+    add-store32
+    store32-requires
+    add-front
+    slice-aggregate-put-address
+    put-address-requires
+    add-put-as
+    put-as-requires
+    add-result
+    same-length
+    returns-3)

@@ -1,0 +1,246 @@
+-- The candidate test in each of its cases, and that a candidate is a record that passes.
+use Prim.Native.Nat.{ℕ, _+_, _-_, _*_, _<_, _≤_}
+use mathlib.Core.Path.{_≡_, refl, sym, _∙_, ap}
+use mathlib.Core.Bool.{Bool, true, false, _&&_, and-false, not, cond}
+use mathlib.Core.List.{List}
+use native.Mathlib.Omega.{arith}
+use lib.ListN.{length, drop, getD}
+use lib.Dec.{leb, ltb, eqb}
+use borrow.Author.Tests.{lt-leb, le-leb, lt-ltb, le-ltb, leb-true, leb-false, eq-eqb, ne-eqb, eqb-true}
+use Rattle.octets.specs.Octets.{beAt}
+use Rattle.octets.proofs.Numbers.{be-drop, be-halves, be-one}
+use Rattle.rules.specs.Ask.{done, _>>=_, over, past}
+use Rattle.rules.proofs.Asked.{over-bind, over-past}
+use Rattle.header.specs.Read.{Heading, refused, accepted, header, headerAt}
+use Rattle.header.specs.Frame.{Framing, framed, frame}
+use Rattle.header.proofs.Reading.{header-kind, header-stored}
+use Rattle.header.proofs.Framing.{read-within}
+use Rattle.walk_checks.specs.Legacy.{legacy}
+use Rattle.walk_checks.specs.Bgp4mp.{asSize, stateChange}
+use Rattle.walk.specs.Judged.{Judged, fit, off, cut, stands, fails}
+use Rattle.walk.proofs.Sound.{Sound}
+use Rattle.walk_judge.specs.Record.{verdict, judge, judgeAt}
+use Rattle.walk_candidate.specs.Candidate.{family, evidence, plausible, standing, headed, candidate, candidateAt}
+use Rattle.walk_judge.proofs.Soundness.{judge-left, inside, off-number, cut-number}
+
+pub family-rest : (k : ℕ) → (k ≡ 5 → ⊥) → (k ≡ 16 → ⊥) → (k ≡ 17 → ⊥) → 0 ≡ family k
+unfolding family
+family-rest k a b c = simp (ne-eqb _ _ a, ne-eqb _ _ b, ne-eqb _ _ c)
+
+module _ (k u : ℕ) where
+  pub evidence-legacy : k ≡ 5 → 1 ≡ evidence k u
+  unfolding evidence
+  evidence-legacy e = simp (eq-eqb _ _ e)
+
+  pub evidence-states : (k ≡ 5 → ⊥) → stateChange u ≡ true → 3 ≡ evidence k u
+  unfolding evidence
+  evidence-states n e = simp (ne-eqb _ _ n, e)
+
+  pub evidence-marker : (k ≡ 5 → ⊥) → stateChange u ≡ false → 2 ≡ evidence k u
+  unfolding evidence
+  evidence-marker n e = simp (ne-eqb _ _ n, e)
+
+  evidence-between : (1 ≤ evidence k u) × (evidence k u ≤ 3)
+  unfolding evidence
+  evidence-between = by-tests (eqb k 5) (stateChange u)
+    where
+      by-tests : (t v : Bool) → (1 ≤ cond t 1 (cond v 3 2)) × (cond t 1 (cond v 3 2) ≤ 3)
+      by-tests true v = (omega arith, omega arith)
+      by-tests false true = (omega arith, omega arith)
+      by-tests false false = (omega arith, omega arith)
+
+-- a judged record as a candidate, by its cases
+module _ {j : Judged} where
+  pub standing-cut : {n : ℕ} → cut n ≡ j → fails ≡ standing j
+  unfolding standing
+  standing-cut e = rw (← e)
+
+  pub standing-off : {n end : ℕ} → off n end ≡ j → fails ≡ standing j
+  unfolding standing
+  standing-off e = rw (← e)
+
+  pub standing-fit : {f : Framing} → fit f ≡ j → {g x : ℕ} → g ≡ family (f .head .kind) → x ≡ evidence (f .head .kind) (f .head .subtype)
+      → stands g x (f .end) ≡ standing j
+  unfolding standing
+  standing-fit e p q = rw (← e, p, q)
+
+positive : (n : ℕ) → (n ≡ 0 → ⊥) → 0 < n
+positive n h = omega arith
+
+-- a length that no candidate has
+plausible-most : (k u n us : ℕ) → 65599 < n → plausible k u n us ≡ false
+unfolding plausible
+plausible-most k u n us l = simp (lt-leb n 65599 l, and-false)
+
+-- what the header alone decides; f is its family
+module _ (k u n us : ℕ) {f : ℕ} (e : f ≡ family k) where
+  pub plausible-family : f ≡ 0 → false ≡ plausible k u n us
+  unfolding plausible
+  plausible-family z = simp (← e, eq-eqb _ _ z)
+
+  module _ (g : f ≡ 0 → ⊥) where
+    pub plausible-long : 65599 < n → false ≡ plausible k u n us
+    unfolding plausible
+    plausible-long l = simp (← e, ne-eqb _ _ g, lt-leb _ _ l)
+
+    module _ (l : n ≤ 65599) where
+      pub plausible-late : 1000000 ≤ us → false ≡ plausible k u n us
+      unfolding plausible
+      plausible-late m = simp (← e, ne-eqb _ _ g, le-leb _ _ l, le-ltb _ _ m)
+
+      module _ (m : us < 1000000) where
+        pub plausible-message : (k ≡ 5 → ⊥) → not (eqb (asSize u) 0) ≡ plausible k u n us
+        unfolding plausible
+        plausible-message i = simp (← e, ne-eqb _ _ g, le-leb _ _ l, lt-ltb _ _ m, ne-eqb _ _ i)
+
+        pub plausible-legacy : k ≡ 5 → {x : ℕ} → x ≡ legacy u n → eqb x 0 ≡ plausible k u n us
+        unfolding plausible
+        plausible-legacy i q = simp (← e, ne-eqb _ _ g, le-leb _ _ l, lt-ltb _ _ m, eq-eqb _ _ i, q)
+
+-- whether a header may begin a candidate
+abbrev begins : Heading → Bool
+begins h = eqb (h .number) 0 && plausible (h .kind) (h .subtype) (h .stored) (h .micros)
+
+-- the test by the header and the judgement
+pub candidate-over : (s : List ℕ) (at : ℕ) → over s (candidate at) ≡ cond (begins (over s header)) (standing (over s (judge at))) fails
+unfolding candidate headed judge frame over
+candidate-over s at =
+    over-bind s (headed at) header
+    ∙ by-test (begins (over s header))
+    ∙ ap (λ (j : Judged). cond (begins (over s header)) (standing j) fails) (sym (over-bind s verdict (header >>= framed at) ∙ ap (λ (f : Framing). over s (verdict f)) (over-bind s (framed at) header)))
+  where
+    by-test : (t : Bool) → over s (cond t (framed at (over s header) >>= verdict >>= λ j. done (standing j)) (done fails))
+        ≡ cond t (standing (over s (verdict (over s (framed at (over s header)))))) fails
+    by-test true = over-bind s _ (framed at (over s header) >>= verdict) ∙ ap standing (over-bind s verdict (framed at (over s header)))
+    by-test false = refl
+
+module _ (s : List ℕ) (p : ℕ) where
+  candidate-left : p ≤ length s → over s (candidateAt p) ≡ over (drop p s) (candidate p)
+  unfolding candidateAt
+  candidate-left l = over-past s p l (candidate p)
+
+  -- too few octets are left for a header
+  pub candidate-near : length s < p + 12 → fails ≡ over s (candidateAt p)
+  unfolding candidateAt candidate header headed past over _>>=_
+  candidate-near l = simp (lt-leb (p + 12) (length s) l)
+
+  -- the type by its two octets
+  type-octets : getD s (p + 4) 0 * 256 + getD s (p + 5) 0 ≡ beAt s (p + 4) 2
+  type-octets =
+      let f : p + 4 + 1 ≡ p + 5 = omega arith in
+      rw f at (be-halves s (p + 4) 1 1 (be-one s (p + 4)) (be-one s (p + 4 + 1)))
+
+  -- the length by its first two octets and the others
+  length-octets : (getD s (p + 8) 0 * 256 + getD s (p + 9) 0) * 65536 + beAt s (p + 10) 2 ≡ beAt s (p + 8) 4
+  length-octets =
+      let f : p + 8 + 1 ≡ p + 9 = omega arith in
+      let g : p + 8 + 2 ≡ p + 10 = omega arith in
+      let h : getD s (p + 8) 0 * 256 + getD s (p + 9) 0 ≡ beAt s (p + 8) 2 =
+      rw f at (be-halves s (p + 8) 1 1 (be-one s (p + 8)) (be-one s (p + 8 + 1))) in
+      rw g at (be-halves s (p + 8) 2 2 h refl)
+
+  module _ (l : p ≤ length s) where
+    -- a header that begins no candidate
+    not-begun : begins (over (drop p s) header) ≡ false → fails ≡ over s (candidateAt p)
+    not-begun e = rw (candidate-left l, candidate-over (drop p s) p, e)
+
+    candidate-other : {k f : ℕ} → k ≡ beAt s (p + 4) 2 → f ≡ family k → f ≡ 0 → fails ≡ over s (candidateAt p)
+    candidate-other {k} {f} e g z = not-begun (by-number (eqb (over (drop p s) header .number) 0) refl)
+      where
+        by-number : (t : Bool) → eqb (over (drop p s) header .number) 0 ≡ t → (t && plausible (over (drop p s) header .kind) (over (drop p s) header .subtype) (over (drop p s) header .stored) (over (drop p s) header .micros)) ≡ false
+        by-number true t =
+            let h : over (drop p s) header .kind ≡ k = header-kind (drop p s) (eqb-true _ _ t) ∙ be-drop s p 4 2 ∙ sym e in
+            sym (plausible-family (over (drop p s) header .kind) _ _ _ (g ∙ ap family (sym h)) z)
+        by-number false t = refl
+
+    -- a type of 256 or more is of no family
+    pub candidate-high : (getD s (p + 4) 0 ≡ 0 → ⊥) → fails ≡ over s (candidateAt p)
+    candidate-high h =
+        let e = type-octets in
+        candidate-other refl (family-rest (beAt s (p + 4) 2) (λ z. omega arith) (λ z. omega arith) (λ z. omega arith)) refl
+
+    -- nor is any other below it
+    pub candidate-low : getD s (p + 4) 0 ≡ 0 → (getD s (p + 5) 0 ≡ 5 → ⊥) → (16 ≤ getD s (p + 5) 0 → getD s (p + 5) 0 ≤ 17 → ⊥)
+        → fails ≡ over s (candidateAt p)
+    candidate-low h a b =
+        let e = type-octets in
+        candidate-other refl
+        (family-rest (beAt s (p + 4) 2) (λ z. a (omega arith)) (λ z. b (omega arith) (omega arith)) (λ z. b (omega arith) (omega arith))) refl
+
+    -- a wire length that no candidate has
+    candidate-long : {w : ℕ} → w ≡ beAt s (p + 8) 4 → 65603 < w → fails ≡ over s (candidateAt p)
+    candidate-long {w} e m = not-begun (by-number (eqb (over (drop p s) header .number) 0) refl)
+      where
+        by-number : (t : Bool) → eqb (over (drop p s) header .number) 0 ≡ t → (t && plausible (over (drop p s) header .kind) (over (drop p s) header .subtype) (over (drop p s) header .stored) (over (drop p s) header .micros)) ≡ false
+        by-number true t =
+            let h : beAt (drop p s) 8 4 ≤ over (drop p s) header .stored + 4 = header-stored (drop p s) (eqb-true _ _ t) in
+            let d : beAt (drop p s) 8 4 ≡ beAt s (p + 8) 4 = be-drop s p 8 4 in
+            plausible-most _ _ _ _ (omega arith)
+        by-number false t = refl
+
+    -- the same by the length's first two octets
+    pub candidate-huge : (getD s (p + 8) 0 ≡ 0 → ⊥) → fails ≡ over s (candidateAt p)
+    candidate-huge h = let e = length-octets in let z = positive (getD s (p + 8) 0) h in candidate-long refl (omega arith)
+
+    pub candidate-large : 1 < getD s (p + 9) 0 → fails ≡ over s (candidateAt p)
+    candidate-large h = let e = length-octets in candidate-long refl (omega arith)
+
+    -- the header that was read there
+    read-there : over (drop p s) header ≡ headerAt s p
+    unfolding headerAt
+    read-there = simp (le-ltb _ _ l)
+
+  pub candidate-unread : {n : ℕ} → (n ≡ 0 → ⊥) → refused n ≡ headerAt s p → fails ≡ over s (candidateAt p)
+  candidate-unread {n} z e = by-place (leb p (length s)) refl
+    where
+      by-place : (t : Bool) → leb p (length s) ≡ t → fails ≡ over s (candidateAt p)
+      by-place true t = let l : p ≤ length s = leb-true _ _ t in not-begun l (rw (read-there l, ← e, ne-eqb n 0 z))
+      by-place false t = candidate-near (let m : length s < p = leb-false _ _ t in omega arith)
+
+  module _ {t k u w n us : ℕ} (e : accepted t k u w n us ≡ headerAt s p) where
+    pub candidate-implausible : plausible k u n us ≡ false → fails ≡ over s (candidateAt p)
+    candidate-implausible q = let l = read-within s p e in not-begun l (rw (read-there l, ← e, q))
+
+    pub candidate-plausible : plausible k u n us ≡ true → standing (over s (judgeAt p)) ≡ over s (candidateAt p)
+    candidate-plausible q = let l = read-within s p e in rw (candidate-left l, candidate-over (drop p s) p, read-there l, ← e, q, judge-left s p l)
+
+-- THEOREM. A candidate is a record that the judgement accepts, with the same end, and its evidence is 1, 2 or 3.
+pub record Accepted (s : List ℕ) (p v e : ℕ) : Type 0 where
+  pub frame : Framing
+  pub accepted : over s (judgeAt p) ≡ fit frame
+  pub same-end : frame .end ≡ e
+  pub between : (1 ≤ v) × (v ≤ 3)
+
+pub candidate-accepted : (s : List ℕ) (p f v e : ℕ) → over s (candidateAt p) ≡ stands f v e → Accepted s p v e
+unfolding standing
+candidate-accepted s p f v e q = by-place (leb p (length s)) refl
+  where
+    by-judged : p ≤ length s → (j : Judged) → over (drop p s) (judge p) ≡ j → (t : Bool) → cond t (standing j) fails ≡ stands f v e → Accepted s p v e
+    by-judged l (off r x) z true q = absurd (let y : _≡_ {A = ℕ} 0 1 = cc in omega arith)
+    by-judged l (cut r) z true q = absurd (let y : _≡_ {A = ℕ} 0 1 = cc in omega arith)
+    by-judged l (off r x) z false q = absurd (let y : _≡_ {A = ℕ} 0 1 = cc in omega arith)
+    by-judged l (cut r) z false q = absurd (let y : _≡_ {A = ℕ} 0 1 = cc in omega arith)
+    by-judged l (fit g) z false q = absurd (let y : _≡_ {A = ℕ} 0 1 = cc in omega arith)
+    by-judged l (fit g) z true q =
+        let x : g .end ≡ e = cc in
+        let w : evidence (g .head .kind) (g .head .subtype) ≡ v = cc in
+        let y = evidence-between (g .head .kind) (g .head .subtype) in
+        record { frame = g; accepted = judge-left s p l ∙ z; same-end = x; between = rw w at y }
+
+    by-place : (t : Bool) → leb p (length s) ≡ t → Accepted s p v e
+    by-place true t =
+        let l : p ≤ length s = leb-true _ _ t in
+        by-judged l (over (drop p s) (judge p)) refl (begins (over (drop p s) header)) (sym (candidate-over (drop p s) p) ∙ sym (candidate-left s p l) ∙ q)
+    by-place false t = absurd (let z = candidate-near s p (let m : length s < p = leb-false _ _ t in omega arith) in let y : _≡_ {A = ℕ} 0 1 = cc in omega arith)
+
+-- the walk may rest on this judgement
+pub sound : Sound judgeAt candidateAt
+sound =
+    record {
+      fits = λ s p f q. rw q at (inside s p);
+      offs = λ s p r e q. rw q at (inside s p);
+      off-number = off-number;
+      cut-number = cut-number;
+      carried = λ s p f v e q. let a = candidate-accepted s p f v e q in (a .frame, a .accepted, a .same-end);
+      evidence = λ s p f v e q. candidate-accepted s p f v e q .between;
+    }

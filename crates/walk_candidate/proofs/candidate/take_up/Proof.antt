@@ -1,0 +1,93 @@
+use native.Mathlib.Omega.{arith}
+use mathlib.Core.Path.{_≡_, refl, sym, _∙_, ap}
+use Rattle.answer.proofs.Refusals.{number-not-zero}
+use Rattle.answer.specs.Refusal.{outcomeNumber}
+use Rattle.header.specs.declared.FrameAnswer.{FrameAnswer}
+use Rattle.header.specs.Frame.{Framing, framing, frameAt}
+use Rattle.header.proofs.Framing.{Placed, framed-placed, frame-read, read-within}
+use Rattle.walk_judge.proofs.Judging.{judged-cut, judged-off, judged-fit}
+use Rattle.walk_candidate.proofs.Candidates.{standing-cut, standing-off, standing-fit}
+use borrow.Author.Needs.{needs}
+use Rattle.walk_candidate.proofs.candidate.take_up.Statement.{statement}
+use Rattle.walk_candidate.proofs.candidate.take_up.Tie as tie
+
+-- the frame that was found, and where its body stands
+abbrev the-frame : tie.After-h → Framing
+the-frame c = framing (FrameAnswer.Framed (c .h .given .0 .0) (c .h .given .0 .1 .0) (c .h .given .0 .1 .1 .0) (c .h .given .0 .1 .1 .1 .0))
+
+was-framed : (c : tie.After-h) → the-frame c ≡ frameAt (c .before .before .before .before .args .s .now) (c .before .before .before .before .args .at)
+was-framed c = sym (ap framing (c .h .given .1)) ∙ c .before .before .frame-of .ensures ∙ frame-read _ _ (c .before .before .before .before .pre)
+
+place : (c : tie.After-h) → Placed (c .before .before .before .before .args .s .now) (c .before .before .before .before .args .at) (the-frame c) (was-framed c) refl
+place c = framed-placed _ _ (the-frame c) (was-framed c) refl
+
+frame-of-requires : tie.Need-frame-of-requires
+frame-of-requires c κs = search needs
+
+enum-known-h : tie.Need-enum-known-h
+enum-known-h c = search needs
+
+enum-told : tie.Need-enum-told
+enum-told c = search needs
+
+returns : tie.Need-returns
+returns c =
+    standing-cut
+    (judged-cut _ _ _ (number-not-zero (c .enum-told .given .0 .0)) (read-within _ _ (c .before .before .before .before .pre))
+    (sym (ap framing (c .enum-told .given .1)) ∙ c .before .before .frame-of .ensures ∙ frame-read _ _ (c .before .before .before .before .pre)))
+
+sub-check-body : tie.Need-sub-check-body
+sub-check-body c = let p = place (c .before) in let x = p .body in let y = p .end in omega arith
+
+part-check-body-start : tie.Need-part-check-body-start
+part-check-body-start c = let p = place (c .before) in let x = p .body in let y = p .end in omega arith
+
+part-check-body-end : tie.Need-part-check-body-end
+part-check-body-end c = let p = place (c .before) in let x = p .room in omega arith
+
+check-body-requires : tie.Need-check-body-requires
+check-body-requires c κs = search needs
+
+enum-told-2 : tie.Need-enum-told-2
+enum-told-2 c = search needs
+
+enum-told-3 : tie.Need-enum-told-3
+enum-told-3 c = search needs
+
+family-of-requires : tie.Need-family-of-requires
+family-of-requires c κs = search needs
+
+evidence-of-requires : tie.Need-evidence-of-requires
+evidence-of-requires c κs = search needs
+
+returns-2 : tie.Need-returns-2
+returns-2 c =
+    standing-off
+    (judged-off _ _ _ (was-framed (c .before .before .before .before .before)) refl
+    (sym (ap outcomeNumber (c .enum-told2 .given .1)) ∙ c .before .before .check-body .ensures) (number-not-zero (c .enum-told2 .given .0 .0)))
+
+returns-3 : tie.Need-returns-3
+returns-3 c =
+    standing-fit
+    (judged-fit _ _ _ (was-framed (c .before .before .before .before .before .before .before)) refl
+    (sym (ap outcomeNumber (c .before .before .enum-told3 .given .1)) ∙ c .before .before .before .before .check-body .ensures) refl)
+    (c .before .family-of .ensures) (c .evidence-of .ensures)
+
+pub take-up-spec : {M : Type 1} → statement M
+take-up-spec =
+    tie.close
+    (tie.spec
+    frame-of-requires
+    enum-known-h
+    enum-told
+    returns
+    sub-check-body
+    part-check-body-start
+    part-check-body-end
+    check-body-requires
+    enum-told-2
+    enum-told-3
+    family-of-requires
+    evidence-of-requires
+    returns-2
+    returns-3)

@@ -1,0 +1,136 @@
+-- The largest bodies that pass the checks of types 5, 16 and 17.
+use Prim.Native.Nat.{ℕ, zero, suc, _+_, _-_, _*_, _≤_}
+use mathlib.Core.Path.{_≡_, refl}
+use mathlib.Core.Bool.{Bool, true, false, _&&_, not, cond, and-eq-true-iff}
+use mathlib.Core.List.{List, [], _∷_, _++_}
+use native.Mathlib.Omega.{arith}
+use lib.ListN.{length, getD, drop, length-drop, replicate}
+use lib.Dec.{eqb, leb, ltb}
+use borrow.Author.Tests.{leb-true, eqb-true}
+use Rattle.octets.specs.Octets.{beAt, ones, Octets}
+use Rattle.walk_checks.specs.Within.{from-to, none, within}
+use Rattle.walk_checks.specs.Legacy.{legacyBounds, legacy}
+use Rattle.walk_checks.specs.Message.{messageBounds, message}
+use Rattle.walk_checks.specs.Bgp4mp.{asSizes, asSize, addressSize, stateChange, tail, envelope, bgp4mp}
+
+-- the second of two tests that both hold
+second : (a b : Bool) → (a && b) ≡ true → b ≡ true
+second a b h = and-eq-true-iff a b .0 h .1
+
+first : (a b : Bool) → (a && b) ≡ true → a ≡ true
+first a b h = and-eq-true-iff a b .0 h .0
+
+-- no type of message may be longer
+high-most : (t : ℕ) → messageBounds t .high ≤ 65535
+unfolding messageBounds
+high-most t = by-tests (eqb t 1) (eqb t 2) (eqb t 3) (eqb t 4)
+  where
+    by-tests : (a b c d : Bool) → cond a (from-to 19 4096) (cond b (from-to 23 65535) (cond c (from-to 21 65535) (cond d (from-to 19 19) none))) .high ≤ 65535
+    by-tests true b c d = omega arith
+    by-tests false true c d = omega arith
+    by-tests false false true d = omega arith
+    by-tests false false false true = omega arith
+    by-tests false false false false = omega arith
+
+message-most : (l : List ℕ) → message l ≡ true → length l ≤ 65535
+unfolding message
+message-most l h =
+    let n : ℕ = beAt l 16 2 in
+    let t : ℕ = getD l 18 0 in
+    let marked : Bool = leb 19 (length l) && ones l 0 16 in
+    let filled : Bool = eqb n (length l) in
+    let w = second (marked && filled) (within (messageBounds t) n) h in
+    let i = first (marked && filled) (within (messageBounds t) n) h in
+    let e : n ≡ length l = eqb-true n (length l) (second marked filled i) in
+    let m : n ≤ messageBounds t .high = leb-true n (messageBounds t .high) (second (leb (messageBounds t .low) n) (leb n (messageBounds t .high)) w) in
+    let g = high-most t in
+    omega arith
+
+tail-most : (u : ℕ) (l : List ℕ) → tail u l ≡ true → length l ≤ 65535
+unfolding tail
+tail-most u l = by-test (stateChange u)
+  where
+    by-test : (t : Bool) → cond t (eqb (length l) 4) (message l) ≡ true → length l ≤ 65535
+    by-test true h = let e = eqb-true (length l) 4 h in omega arith
+    by-test false h = message-most l h
+
+address-most : (f : ℕ) → addressSize f ≤ 16
+unfolding addressSize
+address-most f = by-tests (eqb f 1) (eqb f 2)
+  where
+    by-tests : (a b : Bool) → cond a 4 (cond b 16 0) ≤ 16
+    by-tests true b = omega arith
+    by-tests false true = omega arith
+    by-tests false false = omega arith
+
+-- every element of a list is at most m
+upTo : ℕ → List ℕ → Bool
+upTo m [] = true
+upTo m (x ∷ l) = leb x m && upTo m l
+
+getD-most : (m : ℕ) (l : List ℕ) (i : ℕ) → upTo m l ≡ true → getD l i 0 ≤ m
+unfolding upTo
+getD-most m [] i h = omega arith
+getD-most m (x ∷ l) zero h = leb-true x m (first (leb x m) (upTo m l) h)
+getD-most m (x ∷ l) (suc i) h = getD-most m l i (second (leb x m) (upTo m l) h)
+
+as-most : (u : ℕ) → asSize u ≤ 4
+unfolding asSize asSizes upTo
+as-most u = getD-most 4 asSizes u refl
+
+-- THEOREM. The largest body of types 16 and 17 that passes has 65,579 octets: two AS numbers of 4, 4 octets, two addresses of
+-- 16, and a message of 65,535.
+pub bgp4mp-most : (u : ℕ) (b : List ℕ) → bgp4mp u b ≡ 0 → length b ≤ 65579
+unfolding bgp4mp envelope
+bgp4mp-most u b = by-tests (eqb (asSize u) 0) (leb (2 * asSize u + 4) (length b) && envelope (asSize u) x u b) refl
+  where
+    x : ℕ
+    x = addressSize (beAt b (2 * asSize u + 2) 2)
+
+    by-tests : (t e : Bool) → (leb (2 * asSize u + 4) (length b) && envelope (asSize u) x u b) ≡ e → _≡_ {A = ℕ} (cond t 6 (cond e 0 7)) 0 → length b ≤ 65579
+    by-tests true e h z = absurd (omega arith)
+    by-tests false false h z = absurd (omega arith)
+    by-tests false true h z =
+        let at : ℕ = 2 * asSize u + 4 + 2 * x in
+        let fits : Bool = not (eqb x 0) && leb at (length b) in
+        let i = second (leb (2 * asSize u + 4) (length b)) (fits && tail u (drop at b)) h in
+        let l = tail-most u (drop at b) (second fits (tail u (drop at b)) i) in
+        let d = length-drop at b in
+        let p = as-most u in
+        let q = address-most (beAt b (2 * asSize u + 2) 2) in
+        omega arith
+
+-- no subtype of type 5 may be longer
+legacy-high : (u : ℕ) → legacyBounds u .high ≤ 65535
+unfolding legacyBounds
+legacy-high u = by-tests (eqb u 1) (eqb u 3) (eqb u 5) (eqb u 6) (eqb u 7)
+  where
+    by-tests : (a b c d e : Bool) → cond a (from-to 16 65535) (cond b (from-to 10 10) (cond c (from-to 22 4089) (cond d (from-to 14 65535) (cond e (from-to 12 12) none)))) .high ≤ 65535
+    by-tests true b c d e = omega arith
+    by-tests false true c d e = omega arith
+    by-tests false false true d e = omega arith
+    by-tests false false false true e = omega arith
+    by-tests false false false false true = omega arith
+    by-tests false false false false false = omega arith
+
+-- THEOREM. The largest body of type 5 that passes has 65,535 octets.
+pub legacy-most : (u n : ℕ) → legacy u n ≡ 0 → n ≤ 65535
+unfolding legacy
+legacy-most u n = by-tests (ltb (legacyBounds u .high) (legacyBounds u .low)) (within (legacyBounds u) n) refl
+  where
+    by-tests : (t w : Bool) → within (legacyBounds u) n ≡ w → _≡_ {A = ℕ} (cond t 6 (cond w 0 7)) 0 → n ≤ 65535
+    by-tests true w h z = absurd (omega arith)
+    by-tests false false h z = absurd (omega arith)
+    by-tests false true h z =
+        let m = leb-true n (legacyBounds u .high) (second (leb (legacyBounds u .low) n) (leb n (legacyBounds u .high)) h) in
+        let g = legacy-high u in
+        omega arith
+
+-- the largest body: subtype 4 with IPv6 addresses and an UPDATE of 65,535 octets
+pub largest : List ℕ
+largest = replicate 11 0 ++ (2 ∷ []) ++ replicate 32 0 ++ replicate 18 255 ++ (2 ∷ []) ++ replicate 65516 0
+
+-- THEOREM. A body of 65,579 octets passes: that is the largest.
+pub largest-passes : Octets largest × (length largest ≡ 65579) × (bgp4mp 4 largest ≡ 0)
+unfolding largest upTo bgp4mp asSize asSizes envelope addressSize tail stateChange message messageBounds beAt ones
+largest-passes = (λ i. let h = getD-most 255 largest i refl in omega arith, refl, refl)

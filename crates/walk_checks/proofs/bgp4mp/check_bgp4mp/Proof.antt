@@ -1,0 +1,101 @@
+use Rattle.walk_checks.proofs.Envelopes.{bgp4mp-other, bgp4mp-short, bgp4mp-family, bgp4mp-cut, bgp4mp-met, bgp4mp-unmet}
+use borrow.Author.Needs.{needs}
+use Rattle.walk_checks.proofs.bgp4mp.check_bgp4mp.Statement.{statement}
+use Rattle.walk_checks.proofs.bgp4mp.check_bgp4mp.Tie as tie
+
+as-size-requires : tie.Need-as-size-requires
+as-size-requires c κs = search needs
+
+cast-a : tie.Need-cast-a
+cast-a c = search needs
+
+returns : tie.Need-returns
+returns c = bgp4mp-other _ _ (c .before .as-size .ensures) (c .if1 .taken)
+
+mul-if2 : tie.Need-mul-if2
+mul-if2 c = search needs
+
+add-if2 : tie.Need-add-if2
+add-if2 c = search needs
+
+returns-2 : tie.Need-returns-2
+returns-2 c = bgp4mp-short _ _ (c .before .before .as-size .ensures) (c .before .if1 .left) (c .if2 .taken)
+
+mul-be16 : tie.Need-mul-be16
+mul-be16 c = search needs
+
+add-be16 : tie.Need-add-be16
+add-be16 c = search needs
+
+be16-requires : tie.Need-be16-requires
+be16-requires c κs = search needs
+
+address-size-requires : tie.Need-address-size-requires
+address-size-requires c κs = search needs
+
+cast-x : tie.Need-cast-x
+cast-x c = search needs
+
+returns-3 : tie.Need-returns-3
+returns-3 c = bgp4mp-family _ _ (c .before .before .before .before .before .as-size .ensures) (c .before .before .before .before .if1 .left) (c .before .before .before .if2 .left) (c .before .before .be16 .ensures) (c .before .address-size .ensures) (c .if3 .taken)
+
+mul-at : tie.Need-mul-at
+mul-at c = search needs
+
+add-at : tie.Need-add-at
+add-at c = search needs
+
+mul-at-2 : tie.Need-mul-at-2
+mul-at-2 c = search needs
+
+add-at-2 : tie.Need-add-at-2
+add-at-2 c = search needs
+
+returns-4 : tie.Need-returns-4
+returns-4 c = bgp4mp-cut _ _ (c .before .before .before .before .before .before .as-size .ensures) (c .before .before .before .before .before .if1 .left) (c .before .before .before .before .if2 .left) (c .before .before .before .be16 .ensures) (c .before .before .address-size .ensures) (c .before .if3 .left) (c .if4 .taken)
+
+sub-ends-well : tie.Need-sub-ends-well
+sub-ends-well c = search needs
+
+part-ends-well-start : tie.Need-part-ends-well-start
+part-ends-well-start c = search needs
+
+part-ends-well-end : tie.Need-part-ends-well-end
+part-ends-well-end c = search needs
+
+ends-well-requires : tie.Need-ends-well-requires
+ends-well-requires c κs = search needs
+
+returns-5 : tie.Need-returns-5
+returns-5 c = bgp4mp-met _ _ (c .before .before .before .before .before .before .before .before .before .as-size .ensures) (c .before .before .before .before .before .before .before .before .if1 .left) (c .before .before .before .before .before .before .before .if2 .left) (c .before .before .before .before .before .before .be16 .ensures) (c .before .before .before .before .before .address-size .ensures) (c .before .before .before .before .if3 .left) (c .before .before .before .if4 .left) (c .before .ends-well .ensures) (c .if5 .taken)
+
+returns-6 : tie.Need-returns-6
+returns-6 c = bgp4mp-unmet _ _ (c .before .before .before .before .before .before .before .before .before .as-size .ensures) (c .before .before .before .before .before .before .before .before .if1 .left) (c .before .before .before .before .before .before .before .if2 .left) (c .before .before .before .before .before .before .be16 .ensures) (c .before .before .before .before .before .address-size .ensures) (c .before .before .before .before .if3 .left) (c .before .before .before .if4 .left) (c .before .ends-well .ensures) (c .if5 .left)
+
+pub check-bgp4mp-spec : {M : Type 1} → statement M
+check-bgp4mp-spec =
+    tie.close
+    (tie.spec
+    as-size-requires
+    cast-a
+    returns
+    mul-if2
+    add-if2
+    returns-2
+    mul-be16
+    add-be16
+    be16-requires
+    address-size-requires
+    cast-x
+    returns-3
+    mul-at
+    add-at
+    mul-at-2
+    add-at-2
+    returns-4
+    sub-ends-well
+    part-ends-well-start
+    part-ends-well-end
+    ends-well-requires
+    returns-5
+    returns-6)

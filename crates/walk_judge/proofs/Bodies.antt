@@ -1,0 +1,95 @@
+-- The body check by type.
+use Prim.Native.Nat.{ℕ, _+_, _*_, _<_, _≤_}
+use mathlib.Core.Path.{_≡_, refl}
+use mathlib.Core.Bool.{Bool, true, false, _&&_, _||_, cond}
+use mathlib.Core.List.{List}
+use native.Mathlib.Omega.{arith}
+use lib.ListN.{length}
+use lib.Dec.{ltb, leb, eqb}
+use borrow.Author.Tests.{eq-eqb, ne-eqb, eqb-true, eqb-false}
+use Rattle.octets.specs.Octets.{beAt}
+use Rattle.header.specs.Kind.{known}
+use Rattle.peers_table.specs.Table.{Heading, lastEnd, checkPeers}
+use Rattle.rib_head.specs.Layout.{carried, mostBits}
+use Rattle.rib_head.specs.Head.{readable, checkRib}
+use Rattle.walk_checks.specs.Within.{within, met}
+use Rattle.walk_checks.specs.Legacy.{legacyBounds, legacy}
+use Rattle.walk_checks.specs.Bgp4mp.{asSize, addressSize, envelope, bgp4mp}
+use Rattle.walk_judge.specs.Body.{check, tableDump}
+
+module _ (u : ℕ) (b : List ℕ) where
+  pub dump-rib : (u ≡ 1 → ⊥) → checkRib b u ≡ tableDump u b
+  unfolding tableDump
+  dump-rib n = simp (ne-eqb _ _ n)
+
+  pub dump-peers : u ≡ 1 → checkPeers b .number ≡ tableDump u b
+  unfolding tableDump
+  dump-peers e = simp (eq-eqb _ _ e)
+
+  module _ (k n : ℕ) where
+    pub check-legacy : k ≡ 5 → legacy u n ≡ check k u n b
+    unfolding check known
+    check-legacy e = rw e
+
+    pub check-dump : k ≡ 13 → tableDump u b ≡ check k u n b
+    unfolding check known
+    check-dump e = rw e
+
+    check-plain : k ≡ 16 → bgp4mp u b ≡ check k u n b
+    unfolding check known
+    check-plain e = rw e
+
+    check-extended : k ≡ 17 → bgp4mp u b ≡ check k u n b
+    unfolding check known
+    check-extended e = rw e
+
+    pub check-message : 16 ≤ k → k < 18 → bgp4mp u b ≡ check k u n b
+    check-message l h = by-test (eqb k 16) refl
+      where
+        by-test : (t : Bool) → eqb k 16 ≡ t → bgp4mp u b ≡ check k u n b
+        by-test true e = check-plain (eqb-true k 16 e)
+        by-test false e = let d : k ≡ 16 → ⊥ = eqb-false k 16 e in check-extended (omega arith)
+
+    pub check-rest : (k ≡ 5 → ⊥) → (k ≡ 13 → ⊥) → (k ≡ 16 → ⊥) → (k ≡ 17 → ⊥) → cond (known k) 5 2 ≡ check k u n b
+    unfolding check
+    check-rest a c d e = simp (ne-eqb _ _ a, ne-eqb _ _ c, ne-eqb _ _ d, ne-eqb _ _ e)
+
+-- a number that a body check of a known type may have: 0, or 5, 6 or 7
+abbrev pub OfBody : ℕ → Type 0
+OfBody n = (n ≡ 0 → ⊥) → (5 ≤ n) × (n ≤ 7)
+
+either : {A : Type 0} (P : A → Type 0) (t : Bool) (x y : A) → P x → P y → P (cond t x y)
+either P true x y p q = p
+either P false x y p q = q
+
+-- a check of its subtype, and then of its octets
+by-subtype : (t v : Bool) → OfBody (cond t 6 (met v))
+by-subtype true v z = (omega arith, omega arith)
+by-subtype false true z = absurd (z refl)
+by-subtype false false z = (omega arith, omega arith)
+
+module _ (u : ℕ) (b : List ℕ) where
+  legacy-number : (n : ℕ) → OfBody (legacy u n)
+  unfolding legacy
+  legacy-number n = by-subtype (ltb (legacyBounds u .high) (legacyBounds u .low)) (within (legacyBounds u) n)
+
+  message-number : OfBody (bgp4mp u b)
+  unfolding bgp4mp
+  message-number =
+      let x : ℕ = addressSize (beAt b (2 * asSize u + 2) 2) in
+      by-subtype (eqb (asSize u) 0) (leb (2 * asSize u + 4) (length b) && envelope (asSize u) x u b)
+
+  dump-number : OfBody (tableDump u b)
+  unfolding tableDump checkPeers checkRib
+  dump-number =
+      either OfBody (eqb u 1) _ _
+      (either (λ (h : Heading). OfBody (h .number)) (leb (lastEnd b) (length b)) _ _ (by-subtype false true) (by-subtype false false))
+      (either OfBody (carried u) _ _ (by-subtype false (readable (mostBits u) b)) (by-subtype true true))
+
+  pub check-number : (k n : ℕ) → known k ≡ true → OfBody (check k u n b)
+  unfolding check
+  check-number k n e =
+      rw e
+      (either OfBody (eqb k 5) _ _ (legacy-number n)
+      (either OfBody (eqb k 13) _ _ dump-number
+      (either OfBody (eqb k 16 || eqb k 17) _ _ message-number (λ z. (omega arith, omega arith)))))

@@ -1,0 +1,53 @@
+// The body check by type.
+ghost use mathlib.Core.Bool.{cond};
+ghost use mathlib.Core.Path.{_≡_};
+ghost use Rattle.answer.specs.Refusal.{outcomeNumber};
+ghost use Rattle.header.specs.Kind.{known};
+ghost use Rattle.walk_judge.specs.Body.{check, tableDump};
+use answer::Outcome;
+use answer::Refusal;
+use header::StoredLength;
+use peers_table::TableAnswer;
+
+// The body of a record, by the record's type, subtype and stored length.
+pub fn check_body(body: &[u8], kind: u16, subtype: u16, stored: StoredLength) -> Outcome
+    ensures answer { λ r. ⌜ outcomeNumber r ≡ check kind subtype (stored .0) (now (body .entry)) ⌝ }
+{
+    match kind {
+        5 => walk_checks::check_legacy(subtype, stored),
+        13 => check_table_dump(body, subtype),
+        16 | 17 => walk_checks::check_bgp4mp(body, subtype),
+        _ => refuse_type(kind),
+    }
+}
+
+// A type other than 5, 13, 16 and 17.
+fn refuse_type(kind: u16) -> Outcome
+    ensures { λ r. ⌜ outcomeNumber r ≡ cond (known kind) 5 2 ⌝ }
+{
+    if header::is_known(kind) {
+        return Outcome::Refused(Refusal::NotCarried);
+    }
+    Outcome::Refused(Refusal::UnknownType)
+}
+
+// Type 13: a peer table that holds its peers, or a RIB with a readable head.
+fn check_table_dump(body: &[u8], subtype: u16) -> Outcome
+    ensures { λ r. ⌜ outcomeNumber r ≡ tableDump subtype (now (body .entry)) ⌝ }
+{
+    if subtype != 1 {
+        return rib_head::check_rib(body, subtype);
+    }
+    let t = peers_table::check_peers(body);
+    match t {
+        TableAnswer::Refused(r) => Outcome::Refused(r),
+        TableAnswer::Table {
+            collector: _,
+            name: _,
+            length: _,
+            count: _,
+            first: _,
+            end: _,
+        } => Outcome::Accepted,
+    }
+}

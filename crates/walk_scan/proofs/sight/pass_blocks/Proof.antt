@@ -1,0 +1,61 @@
+use Prim.Native.Nat.{_≤_, _-_}
+use mathlib.Core.Path.{_≡_}
+use native.Mathlib.Omega.{arith}
+use Rattle.walk_scan.specs.Sight.{Passed}
+use Rattle.walk_scan.proofs.Scans.{passed-none, passed-block}
+use borrow.Author.Needs.{needs}
+use Rattle.walk_scan.proofs.sight.pass_blocks.Statement.{statement}
+use Rattle.walk_scan.proofs.sight.pass_blocks.Tie as tie
+
+abbrev Inv-loop : tie.InvT-loop
+Inv-loop s p from last d₀ d = (from ≤ d) × (d ≤ last) × Passed s p from d
+
+abbrev μ-loop : tie.MeasureT-loop
+μ-loop s p from last d₀ d = last - d
+
+loop-holds : tie.Need-loop-holds Inv-loop μ-loop
+loop-holds c = (omega arith, omega arith, passed-none _ _ _)
+
+sub-loop : tie.Need-sub-loop Inv-loop μ-loop
+sub-loop c = omega arith
+
+add-marked : tie.Need-add-marked Inv-loop μ-loop
+add-marked c = omega arith
+
+add-marked-2 : tie.Need-add-marked-2 Inv-loop μ-loop
+add-marked-2 c = omega arith
+
+marked-requires : tie.Need-marked-requires Inv-loop μ-loop
+marked-requires c κs = omega arith
+
+returns : tie.Need-returns Inv-loop μ-loop
+returns c = c .before .before .before .loop .inv
+
+add-d : tie.Need-add-d Inv-loop μ-loop
+add-d c = omega arith
+
+loop-less : tie.Need-loop-less Inv-loop μ-loop
+loop-less c = omega arith
+
+loop-again : tie.Need-loop-again Inv-loop μ-loop
+loop-again c = (omega arith, omega arith, passed-block _ _ _ _ _ (c .before .before .before .loop .inv .2) (c .before .marked .ensures (omega arith)))
+
+returns-2 : tie.Need-returns-2 Inv-loop μ-loop
+returns-2 c = c .before .loop .inv
+
+pub pass-blocks-spec : {M : Type 1} → statement M
+pass-blocks-spec =
+    tie.close
+    (tie.spec
+    Inv-loop
+    μ-loop
+    loop-holds
+    sub-loop
+    add-marked
+    add-marked-2
+    marked-requires
+    returns
+    add-d
+    loop-less
+    loop-again
+    returns-2)

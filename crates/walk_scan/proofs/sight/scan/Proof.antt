@@ -1,0 +1,148 @@
+use Prim.Native.Nat.{_≤_, _-_, min}
+use mathlib.Core.Path.{_≡_, refl, sym, _∙_, ap}
+use native.Mathlib.Omega.{arith}
+use lib.ListN.{length}
+use borrow.Author.Needs.{needs}
+use Rattle.walk.proofs.Turns.{Left, Stood, scan-starts, scan-looks, scan-turned, scan-left, row-starts, row-ends, row-other, row-turned, row-whole, row-longer}
+use Rattle.walk_candidate.specs.Candidate.{candidateAt, candidacy}
+use Rattle.walk_scan.proofs.Scans.{scan-reached, left-over}
+use Rattle.walk_scan.proofs.sight.scan.Statement.{statement}
+use Rattle.walk_scan.proofs.sight.scan.Tie as tie
+
+abbrev Inv-loop : tie.InvT-loop
+Inv-loop s p window more n last d offset family₀ evidence₀ i₀ at₀ family evidence i at =
+    (i ≤ more) × Stood candidateAt s more offset i family evidence at
+
+abbrev μ-loop : tie.MeasureT-loop
+μ-loop s p window more n last d offset family₀ evidence₀ i₀ at₀ family evidence i at = more - i
+
+abbrev Inv-distance : tie.InvT-distance
+Inv-distance s p window more n last d₀ d = (d ≤ last) × (last ≡ min window (length s - p - 12)) × Left candidateAt s more p window d
+
+abbrev μ-distance : tie.MeasureT-distance
+μ-distance s p window more n last d₀ d = last - d
+
+reach-requires : tie.Need-reach-requires Inv-loop μ-loop Inv-distance μ-distance
+reach-requires c κs = search needs
+
+distance-holds : tie.Need-distance-holds Inv-loop μ-loop Inv-distance μ-distance
+distance-holds c = (omega arith, c .reach .ensures, scan-starts candidateAt _ _ _ _)
+
+pass-over-requires : tie.Need-pass-over-requires Inv-loop μ-loop Inv-distance μ-distance
+pass-over-requires c κs = (c .distance .inv .0, omega arith)
+
+returns : tie.Need-returns Inv-loop μ-loop Inv-distance μ-distance
+returns c =
+    let at-pass = c .before in
+    let at-distance = at-pass .before in
+    scan-reached _ _ _ _ _ (omega arith) (omega arith)
+    (left-over _ _ _ _ _ _ (at-pass .pass-over .ensures .0) (omega arith) (at-distance .distance .inv .2) (at-pass .pass-over .ensures .2))
+
+add-d : tie.Need-add-d Inv-loop μ-loop Inv-distance μ-distance
+add-d c = omega arith
+
+add-offset : tie.Need-add-offset Inv-loop μ-loop Inv-distance μ-distance
+add-offset c = omega arith
+
+loop-holds : tie.Need-loop-holds Inv-loop μ-loop Inv-distance μ-distance
+loop-holds c = (omega arith, row-starts candidateAt _ _ _ _ _)
+
+candidate-at-requires : tie.Need-candidate-at-requires Inv-loop μ-loop Inv-distance μ-distance
+candidate-at-requires c κs = search needs
+
+enum-known-other : tie.Need-enum-known-other Inv-loop μ-loop Inv-distance μ-distance
+enum-known-other c = search needs
+
+enum-told : tie.Need-enum-told Inv-loop μ-loop Inv-distance μ-distance
+enum-told c = search needs
+
+distance-less : tie.Need-distance-less Inv-loop μ-loop Inv-distance μ-distance
+distance-less c = omega (arith, c .before .before .before .before .before .pass-over .ensures .0, c .before .before .before .before .if1 .left)
+
+distance-again : tie.Need-distance-again Inv-loop μ-loop Inv-distance μ-distance
+distance-again c =
+    let at-pass = c .before .before .before .before .before in
+    let at-distance = at-pass .before in
+    let there = left-over _ _ _ _ _ _ (at-pass .pass-over .ensures .0) (omega (arith, c .before .before .before .before .if1 .left, at-distance .distance .inv .1)) (at-distance .distance .inv .2) (at-pass .pass-over .ensures .2) in (
+      omega (arith, c .before .before .before .before .if1 .left),
+      at-distance .distance .inv .1,
+      scan-turned candidateAt _ _ _ _ _ _ refl
+          (scan-looks candidateAt _ _ _ _ _ (omega (arith, c .before .before .before .before .if1 .left, at-distance .distance .inv .1)) there)
+          (sym (row-ends candidateAt _ _ _ _ _ _ _ (c .before .before .before .loop .inv .0) (c .before .before .before .loop .inv .1)
+          (sym (c .before .before .candidate-at .ensures) ∙ ap candidacy (c .enum-told .given .1)))),
+    )
+
+first-requires : tie.Need-first-requires Inv-loop μ-loop Inv-distance μ-distance
+first-requires c κs = search needs
+
+first-requires-2 : tie.Need-first-requires-2 Inv-loop μ-loop Inv-distance μ-distance
+first-requires-2 c κs = search needs
+
+distance-less-2 : tie.Need-distance-less-2 Inv-loop μ-loop Inv-distance μ-distance
+distance-less-2 c = omega (arith, c .before .before .before .before .before .before .before .before .before .pass-over .ensures .0, c .before .before .before .before .before .before .before .before .if1 .left)
+
+distance-again-2 : tie.Need-distance-again-2 Inv-loop μ-loop Inv-distance μ-distance
+distance-again-2 c =
+    let at-pass = c .before .before .before .before .before .before .before .before .before in
+    let at-distance = at-pass .before in
+    let there = left-over _ _ _ _ _ _ (at-pass .pass-over .ensures .0) (omega (arith, c .before .before .before .before .before .before .before .before .if1 .left, at-distance .distance .inv .1)) (at-distance .distance .inv .2) (at-pass .pass-over .ensures .2) in (
+      omega (arith, c .before .before .before .before .before .before .before .before .if1 .left),
+      at-distance .distance .inv .1,
+      scan-turned candidateAt _ _ _ _ _ _ refl
+          (scan-looks candidateAt _ _ _ _ _ (omega (arith, c .before .before .before .before .before .before .before .before .if1 .left, at-distance .distance .inv .1)) there)
+          (sym (row-other candidateAt _ _ _ _ _ _ _ (c .before .before .before .before .before .before .before .loop .inv .0) (c .before .before .before .before .before .before .before .loop .inv .1) (sym (c .before .before .before .before .before .before .candidate-at .ensures) ∙ ap candidacy (c .before .before .before .before .other .given .1))
+          (c .before .before .first .ensures) (c .if2 .taken))),
+    )
+
+add-i : tie.Need-add-i Inv-loop μ-loop Inv-distance μ-distance
+add-i c = omega arith
+
+loop-less : tie.Need-loop-less Inv-loop μ-loop Inv-distance μ-distance
+loop-less c = omega arith
+
+loop-again : tie.Need-loop-again Inv-loop μ-loop Inv-distance μ-distance
+loop-again c = (
+  omega arith,
+  row-longer candidateAt _ _ _ _ _ _ _
+      (row-turned candidateAt _ _ _ _ _ _ _ (c .before .before .before .before .before .before .before .before .loop .inv .0) (c .before .before .before .before .before .before .before .before .loop .inv .1) (sym (c .before .before .before .before .before .before .before .candidate-at .ensures) ∙ ap candidacy (c .before .before .before .before .before .other .given .1))
+      (c .before .before .before .first .ensures) (c .before .before .first2 .ensures) (c .before .if2 .left)),
+)
+
+returns-2 : tie.Need-returns-2 Inv-loop μ-loop Inv-distance μ-distance
+returns-2 c =
+    let at-pass = c .before .before .before .before .before .before .before .before .before .before in
+    let at-distance = at-pass .before in
+    let there = left-over _ _ _ _ _ _ (at-pass .pass-over .ensures .0) (omega (arith, c .before .before .before .before .before .before .before .before .before .if1 .left, at-distance .distance .inv .1)) (at-distance .distance .inv .2) (at-pass .pass-over .ensures .2) in
+    scan-left candidateAt _ _ _ _ _ _ (scan-looks candidateAt _ _ _ _ _ (omega (arith, c .before .before .before .before .before .before .before .before .before .if1 .left, at-distance .distance .inv .1)) there)
+    (sym (row-whole candidateAt _ _ _ _ _ _ _ (c .if3 .taken)
+    (row-turned candidateAt _ _ _ _ _ _ _ (c .before .before .before .before .before .before .before .before .loop .inv .0) (c .before .before .before .before .before .before .before .before .loop .inv .1) (sym (c .before .before .before .before .before .before .before .candidate-at .ensures) ∙ ap candidacy (c .before .before .before .before .before .other .given .1))
+    (c .before .before .before .first .ensures) (c .before .before .first2 .ensures) (c .before .if2 .left))))
+
+pub scan-spec : {M : Type 1} → statement M
+scan-spec =
+    tie.close
+    (tie.spec
+    Inv-loop
+    μ-loop
+    Inv-distance
+    μ-distance
+    reach-requires
+    distance-holds
+    pass-over-requires
+    returns
+    add-d
+    add-offset
+    loop-holds
+    candidate-at-requires
+    enum-known-other
+    enum-told
+    distance-less
+    distance-again
+    first-requires
+    first-requires-2
+    distance-less-2
+    distance-again-2
+    add-i
+    loop-less
+    loop-again
+    returns-2)

@@ -1,0 +1,72 @@
+use Rattle.walk_candidate.specs.Candidate.{candidateAt}
+use Rattle.walk_judge.specs.Record.{judgeAt, judged}
+use mathlib.Core.Path.{sym, _∙_, ap}
+use Rattle.walk.proofs.Turns.{step-beyond, step-finished, step-end, step-fit, step-off, step-cut}
+use borrow.Author.Needs.{needs}
+use Rattle.walk_step.proofs.call.step.Statement.{statement}
+use Rattle.walk_step.proofs.call.step.Tie as tie
+
+returns : tie.Need-returns
+returns c = step-beyond judgeAt candidateAt _ _ _ _ (c .if1 .taken)
+
+stop-requires : tie.Need-stop-requires
+stop-requires c κs = search needs
+
+returns-2 : tie.Need-returns-2
+returns-2 c = c .stop .ensures ∙ step-finished judgeAt candidateAt _ _ _ _ (c .before .before .if1 .left) (c .before .if2 .taken)
+
+stop-requires-2 : tie.Need-stop-requires-2
+stop-requires-2 c κs = search needs
+
+returns-3 : tie.Need-returns-3
+returns-3 c = c .stop2 .ensures ∙ step-end judgeAt candidateAt _ _ _ _ (c .before .before .before .if1 .left) (c .before .before .if2 .left) (c .before .if3 .taken)
+
+judge-at-requires : tie.Need-judge-at-requires
+judge-at-requires c κs = search needs
+
+enum-known-refusal : tie.Need-enum-known-refusal
+enum-known-refusal c = search needs
+
+search-requires : tie.Need-search-requires
+search-requires c κs = search needs
+
+enum-known-refusal-2 : tie.Need-enum-known-refusal-2
+enum-known-refusal-2 c = search needs
+
+resume-requires : tie.Need-resume-requires
+resume-requires c κs = search needs
+
+enum-known-header : tie.Need-enum-known-header
+enum-known-header c = search needs
+
+go-on-requires : tie.Need-go-on-requires
+go-on-requires c κs = search needs
+
+returns-4 : tie.Need-returns-4
+returns-4 c = c .search .ensures ∙ step-cut judgeAt candidateAt _ _ _ _ (c .before .before .before .before .before .before .before .if1 .left) (c .before .before .before .before .before .before .if2 .left) (c .before .before .before .before .before .if3 .left) _ (sym (ap judged (c .before .before .refusal .given .1)) ∙ c .before .before .before .before .judge-at .ensures)
+
+returns-5 : tie.Need-returns-5
+returns-5 c = c .resume .ensures ∙ step-off judgeAt candidateAt _ _ _ _ (c .before .before .before .before .before .before .before .if1 .left) (c .before .before .before .before .before .before .if2 .left) (c .before .before .before .before .before .if3 .left) _ _ (sym (ap judged (c .before .before .refusal2 .given .1)) ∙ c .before .before .before .before .judge-at .ensures)
+
+returns-6 : tie.Need-returns-6
+returns-6 c = c .go-on .ensures ∙ step-fit judgeAt candidateAt _ _ _ _ (c .before .before .before .before .before .before .before .if1 .left) (c .before .before .before .before .before .before .if2 .left) (c .before .before .before .before .before .if3 .left) _ (sym (ap judged (c .before .before .header .given .1)) ∙ c .before .before .before .before .judge-at .ensures)
+
+pub step-spec : {M : Type 1} → statement M
+step-spec =
+    tie.close
+    (tie.spec
+    returns
+    stop-requires
+    returns-2
+    stop-requires-2
+    returns-3
+    judge-at-requires
+    enum-known-refusal
+    search-requires
+    enum-known-refusal-2
+    resume-requires
+    enum-known-header
+    go-on-requires
+    returns-4
+    returns-5
+    returns-6)

@@ -1,0 +1,18 @@
+-- PeerTables, RibBodies: tables and bodies there and back. HandedOut: what a cursor hands out, from the first entry to the end.
+-- Peers: one peer there and back. Tests: a law of tests. Seams: what stands in a RIB body that is put together. Built: a body under
+-- construction. Runs: entries one after the other. Rebuilt: a body put together from what is read of it. Records: a record in a
+-- stream is judged fit. Written: a header and a body that the calls wrote are one record. Streams: a stream of records is walked as
+-- exactly those. Mixed: what runs of exported calls promise.
+pub mod Peers
+pub mod PeerTables
+pub mod HandedOut
+pub mod Tests
+pub mod Seams
+pub mod Built
+pub mod Runs
+pub mod Rebuilt
+pub mod RibBodies
+pub mod Records
+pub mod Written
+pub mod Streams
+pub mod Mixed

@@ -1,2 +1,0 @@
--- Mixed: what runs of exported calls promise.
-pub mod Mixed
