@@ -47,16 +47,21 @@ pub fn put_octets(out: &mut [u8], at: usize, src: &[u8])
     if n <= at {
         return;
     }
-    let room = n - at;
-    let mut m = src.len();
-    if room < m {
-        m = room;
-    }
+    let m = least(n - at, src.len());
     if m < 16 {
         put_few(out, at, src, m);
         return;
     }
     put_blocks(out, at, src, m);
+}
+
+fn least(a: usize, b: usize) -> usize
+    ensures { λ r. ⌜ r ≡ min a b ⌝ }
+{
+    if a < b {
+        return a;
+    }
+    b
 }
 
 // Copies m octets one by one.
@@ -71,66 +76,37 @@ fn put_few(out: &mut [u8], at: usize, src: &[u8], m: usize)
     }
 }
 
-// Copies m octets by blocks whose number the length's class tells, so that there is little to foresee. The later half is taken from
-// the end, over octets that are stored already.
+// Copies m octets by a hundred and twenty-eight, or by as many as there are; the last ones from the end, over octets that are stored
+// already.
 fn put_blocks(out: &mut [u8], at: usize, src: &[u8], m: usize)
     requires { ⌜ (16 ≤ m) × (at + m ≤ length (now out)) × (m ≤ length (now src)) ⌝ }
     ensures { λ _. ⌜ now (out .exit) ≡ patch (now (out .entry)) at (take m (now (src .entry))) ⌝ }
 {
-    if m <= 32 {
-        put_block(out, at, src, 0);
-        put_block(out, at + (m - 16), src, m - 16);
-        return;
-    }
-    if m <= 64 {
-        put_two(out, at, src, 0);
-        put_two(out, at + (m - 32), src, m - 32);
-        return;
-    }
-    put_fours(out, at, src, m);
-}
-
-// Copies m octets by sixty-four, the last ones from the end.
-fn put_fours(out: &mut [u8], at: usize, src: &[u8], m: usize)
-    requires { ⌜ (64 ≤ m) × (at + m ≤ length (now out)) × (m ≤ length (now src)) ⌝ }
-    ensures { λ _. ⌜ now (out .exit) ≡ patch (now (out .entry)) at (take m (now (src .entry))) ⌝ }
-{
-    let last = m - 64;
+    let k = least(m, 128);
+    let last = m - k;
     let mut i = 0;
     loop {
-        put_four(out, at + i, src, i);
+        put_eight(out, at + i, src, i, k);
         if i == last {
             return;
         }
-        i = least(i + 64, last);
+        i = least(i + 128, last);
     }
 }
 
-fn least(a: usize, b: usize) -> usize
-    ensures { λ r. ⌜ r ≡ min a b ⌝ }
+// Copies the k octets that stand at an offset, 16 to 128, as eight blocks, the later ones at the end: as many for every length, so that
+// there is nothing to foresee.
+fn put_eight(out: &mut [u8], to: usize, src: &[u8], at: usize, k: usize)
+    requires { ⌜ (16 ≤ k) × (k ≤ 128) × (to + k ≤ length (now out)) × (at + k ≤ length (now src)) ⌝ }
+    ensures { λ _. ⌜ now (out .exit) ≡ patch (now (out .entry)) to (part (now (src .entry)) at k) ⌝ }
 {
-    if a < b {
-        return a;
+    let last = k - 16;
+    let mut i = 0;
+    while i < 128 {
+        let j = least(i, last);
+        put_block(out, to + j, src, at + j);
+        i += 16;
     }
-    b
-}
-
-// Copies the sixty-four octets that stand at an offset.
-fn put_four(out: &mut [u8], to: usize, src: &[u8], at: usize)
-    requires { ⌜ (to + 64 ≤ length (now out)) × (at + 64 ≤ length (now src)) ⌝ }
-    ensures { λ _. ⌜ now (out .exit) ≡ patch (now (out .entry)) to (part (now (src .entry)) at 64) ⌝ }
-{
-    put_two(out, to, src, at);
-    put_two(out, to + 32, src, at + 32);
-}
-
-// Copies the thirty-two octets that stand at an offset.
-fn put_two(out: &mut [u8], to: usize, src: &[u8], at: usize)
-    requires { ⌜ (to + 32 ≤ length (now out)) × (at + 32 ≤ length (now src)) ⌝ }
-    ensures { λ _. ⌜ now (out .exit) ≡ patch (now (out .entry)) to (part (now (src .entry)) at 32) ⌝ }
-{
-    put_block(out, to, src, at);
-    put_block(out, to + 16, src, at + 16);
 }
 
 // Copies the sixteen octets that stand at an offset.

@@ -1,12 +1,12 @@
 -- What the calls answer, one law for each way through them.
-use Prim.Native.Nat.{ℕ, _+_, _-_, _/_, _<_, _≤_}
+use Prim.Native.Nat.{ℕ, _+_, _-_, _<_, _≤_}
 use mathlib.Core.Path.{_≡_, refl, sym, _∙_, ap}
 use mathlib.Core.Bool.{Bool, true, false, not, _&&_, _||_, true≢false}
 use mathlib.Core.List.{List}
 use native.Mathlib.Omega.{arith}
 use lib.ListN.{length, take, getD}
 use lib.Dec.{ltb, eqb}
-use borrow.Author.Tests.{lt-ltb, le-ltb, eq-eqb, ne-eqb, eqb-false, ltb-true, ltb-false}
+use borrow.Author.Tests.{lt-ltb, le-ltb, eq-eqb, ne-eqb, eqb-true, eqb-false, ltb-true, ltb-false}
 use Rattle.answer.specs.Refusal.{numberOf, outcomeNumber}
 use Rattle.answer.specs.Writing.{refuse}
 use Rattle.answer.specs.declared.Refusal.{Refusal}
@@ -45,10 +45,10 @@ module _ (s : List ℕ) (t : ℕ) (a : CursorAnswer) (said : cursorValues a ≡ 
       unfolding openOf
       open-over n = rw (← said, v, eq-eqb (c .left) 0 z, ne-eqb (c .at) (length s) n)
 
-      pub open-met : c .at ≡ length s → {b n : ℕ} → b ≡ getD s 4 0 → n ≡ beAt s (5 + (b + 7) / 8) 2
-          → record { number = 0; len = length s; at = 5 + (b + 7) / 8; count = n } ≡ openOf s t
-      unfolding openOf countAt declared bitsOf prefixSize
-      open-met n e q = rw (← said, v, eq-eqb (c .left) 0 z, eq-eqb (c .at) (length s) n, q, e)
+      pub open-met : c .at ≡ length s → {b p n : ℕ} → b ≡ getD s 4 0 → p ≡ prefixSize b → n ≡ beAt s (5 + p) 2
+          → record { number = 0; len = length s; at = 5 + p; count = n } ≡ openOf s t
+      unfolding openOf countAt declared bitsOf
+      open-met n e f q = rw (← said, v, eq-eqb (c .left) 0 z, eq-eqb (c .at) (length s) n, q, f, e)
 
 -- values that fit their fields and values that do not
 module _ (count t path m : ℕ) where
@@ -71,15 +71,21 @@ module _ (count t path m : ℕ) where
       unfit-path z = rw (ne-eqb count 65535 c, le-ltb 65535 m h, ← e, eq-eqb n 0 z)
 
 -- what the test of the values shows
-pub fit-count : (count t path m : ℕ) {u : Bool} → u ≡ unfit count t path m → u ≡ false → (count ≡ 65535 → ⊥) × (m ≤ 65535)
+pub fit-count : (count t path m : ℕ) {u : Bool} → u ≡ unfit count t path m → u ≡ false
+    → (count ≡ 65535 → ⊥) × (m ≤ 65535) × (pathSize t ≡ 0 → path ≡ 0)
 unfolding unfit
 fit-count count t path m g f = by-tests (eqb count 65535) (ltb 65535 m) refl refl (sym g ∙ f)
   where
+    none : (a b : Bool) → eqb path 0 ≡ b → a ≡ true → a && not b ≡ false → path ≡ 0
+    none a true p e h = eqb-true path 0 p
+    none a false p e h = absurd (true≢false (rw e at h))
+
     by-tests : (a b : Bool) → eqb count 65535 ≡ a → ltb 65535 m ≡ b → a || b || (eqb (pathSize t) 0 && not (eqb path 0)) ≡ false
-        → (count ≡ 65535 → ⊥) × (m ≤ 65535)
+        → (count ≡ 65535 → ⊥) × (m ≤ 65535) × (pathSize t ≡ 0 → path ≡ 0)
     by-tests true b e g f = absurd (true≢false f)
     by-tests false true e g f = absurd (true≢false f)
-    by-tests false false e g f = (eqb-false count 65535 e, ltb-false 65535 m g)
+    by-tests false false e g f =
+        (eqb-false count 65535 e, ltb-false 65535 m g, λ z. none (eqb (pathSize t) 0) (eqb path 0) refl (eq-eqb (pathSize t) 0 z) f)
 
 -- where there is room for one entry more, the count can be raised
 pub count-room : {count : ℕ} → count < 65536 → (count ≡ 65535 → ⊥) → count + 1 < 65536
@@ -144,26 +150,19 @@ module _ (s : List ℕ) (t : ℕ) (b : Builder) (e : NewEntry) (l : List ℕ) wh
     after-unfit k = rw (← g, k)
 
     module _ (k : u ≡ false) {n : ℕ} (m : n ≡ pathSize t) where
-      size : length (entryOctets (pathSize t) e l) ≡ 8 + n + length l
-      size = length-entry (pathSize t) e l ∙ ap (λ (k : ℕ). 8 + k + length l) (sym m)
+      size : length (entryOctets n e l) ≡ 8 + n + length l
+      size = length-entry n e l
 
       pub after-full : length s - b .len < 8 + n + length l → unpushed 9 s ≡ pushAfter s t b e l
       unfolding pushAfter
-      after-full r = rw (← g, k, lt-ltb (length s - b .len) (length (entryOctets (pathSize t) e l)) (omega (arith, size)))
+      after-full r = rw (← g, k, ← m, lt-ltb (length s - b .len) (length (entryOctets n e l)) (omega (arith, size)))
 
       pub after-done : 8 + n + length l ≤ length s - b .len → {x y : List ℕ}
-          → x ≡ patch s (b .len) (entryOctets (pathSize t) e l) → y ≡ patch x (b .at) (bytesOf 2 (b .count + 1))
+          → x ≡ patch s (b .len) (entryOctets n e l) → y ≡ patch x (b .at) (bytesOf 2 (b .count + 1))
           → record { number = 0; len = b .len + (8 + n + length l); at = b .at; count = b .count + 1; output = y } ≡ pushAfter s t b e l
       unfolding pushAfter added
       after-done r p q =
-          rw (
-            ← g,
-            k,
-            le-ltb (length s - b .len) (length (entryOctets (pathSize t) e l)) (omega (arith, size)),
-            q,
-            p,
-            ← size,
-          )
+          rw (← g, k, ← m, le-ltb (length s - b .len) (length (entryOctets n e l)) (omega (arith, size)), q, p, size)
 
 -- adding an entry
 module _ (s : List ℕ) (len t : ℕ) (e : NewEntry) (l : List ℕ) where

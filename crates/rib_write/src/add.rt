@@ -1,13 +1,15 @@
 // One more entry, straight after the last one of a body.
 ghost use mathlib.Core.Path.{_≡_};
 ghost use Prim.Native.Nat.{_+_, _≤_};
+ghost use mathlib.Core.Bool.{cond};
 ghost use lib.ListN.{length};
+ghost use lib.Dec.{eqb};
 ghost use Rattle.answer.specs.Refusal.{outcomeNumber};
 ghost use Rattle.answer.specs.Writing.{wrote};
-ghost use Rattle.octets.specs.Octets.{patch, bytesOf};
-ghost use Rattle.rib_head.specs.Layout.{pathSize};
+ghost use Rattle.octets.specs.Octets.{bytesOf, patch};
 ghost use Rattle.rib_write.specs.Layout.{entryOctets};
 ghost use Rattle.rib_write.specs.Add.{openValues, openOf, unfit, pushed, standing, pushAfter, pushEntry, addEntry};
+ghost use Rattle.rib_write.specs.Rows.{entryIn};
 use crate::Builder;
 use crate::BuilderAnswer;
 use crate::NewEntry;
@@ -52,7 +54,7 @@ pub fn open_rib(body: &[u8], subtype: u16) -> BuilderAnswer
             if c.at != len {
                 return BuilderAnswer::Refused(Refusal::BodyNotMet);
             }
-            let at = 5 + (octets::octet(body, 4) as usize + 7) / 8;
+            let at = 5 + rib_head::prefix_size(octets::octet(body, 4));
             BuilderAnswer::Open(Builder {
                 len,
                 at,
@@ -82,7 +84,7 @@ pub fn push_entry(
 }
 
 // Whether a builder is one of a body: the head can be read, and its count is where the builder has it, and the same.
-fn check_builder(body: &[u8], subtype: u16, b: Builder) -> Outcome
+pub(crate) fn check_builder(body: &[u8], subtype: u16, b: Builder) -> Outcome
     ensures { λ r. ⌜ outcomeNumber r ≡ standing (now (body .entry)) subtype b ⌝ }
 {
     match rib_head::check_rib(body, subtype) {
@@ -122,10 +124,12 @@ fn push_after(
     if n - len < size {
         return BuilderAnswer::Refused(Refusal::NoRoom);
     }
-    put_entry(&mut out[len..], subtype, e, attributes);
+    let end = len + size;
+    let row = [e.peer as u64, e.originated as u64, e.path as u64];
+    put_entry(&mut out[len..end], l.path, &row, 0, attributes);
     octets::put_be16(out, b.at, b.count + 1);
     BuilderAnswer::Open(Builder {
-        len: len + size,
+        len: end,
         at: b.at,
         count: b.count + 1,
     })
@@ -148,27 +152,26 @@ fn is_unfit(count: u16, subtype: u16, path: u32, m: usize) -> bool
     path != 0
 }
 
-// The entry at the front of the part that starts at the body's end.
-fn put_entry(part: &mut [u8], subtype: u16, e: NewEntry, attributes: &[u8])
-    requires { ⌜ length (now attributes) ≤ 65535 ⌝ }
-    ensures { λ _. ⌜ now (part .exit) ≡ patch (now (part .entry)) 0 (entryOctets (pathSize subtype) e (now (attributes .entry))) ⌝ }
+// The entry of the row at a place in the part that it fills, its path number in so many octets. The values are read between the stores,
+// which lets the compiler make one store of each number.
+pub(crate) fn put_entry(part: &mut [u8], path: usize, rows: &[u64], at: usize, attributes: &[u8])
+    requires { ⌜ (at + 3 ≤ length (now rows)) × (cond (eqb path 0) 0 4 ≡ path) ⌝ }
+    ensures { λ _. ⌜ now (part .exit) ≡ patch (now (part .entry)) 0 (entryOctets path (entryIn (now (rows .entry)) at) (now (attributes .entry))) ⌝ }
 {
-    let l = rib_head::layout_of(subtype);
-    let size = l.path;
-    octets_copies::store16(part, 0, e.peer);
-    octets_copies::store32(part, 2, e.originated);
-    put_path(part, subtype, 6, e.path);
-    octets_copies::store16(part, 6 + size, attributes.len() as u16);
-    octets_copies::put_octets(part, 8 + size, attributes);
+    octets_copies::store16(part, 0, (rows[at] % 65536) as u16);
+    octets_copies::store32(part, 2, (rows[at + 1] % 4294967296) as u32);
+    put_path(part, path, (rows[at + 2] % 4294967296) as u32);
+    octets_copies::store16(part, 6 + path, (attributes.len() % 65536) as u16);
+    octets_copies::put_octets(part, 8 + path, attributes);
 }
 
-// The path number, where the subtype has one.
-fn put_path(part: &mut [u8], subtype: u16, at: usize, v: u32)
-    ensures { λ _. ⌜ now (part .exit) ≡ patch (now (part .entry)) at (bytesOf (pathSize subtype) v) ⌝ }
+// The path number, where it has octets.
+fn put_path(part: &mut [u8], path: usize, v: u32)
+    requires { ⌜ cond (eqb path 0) 0 4 ≡ path ⌝ }
+    ensures { λ _. ⌜ now (part .exit) ≡ patch (now (part .entry)) 6 (bytesOf path v) ⌝ }
 {
-    let l = rib_head::layout_of(subtype);
-    if l.path == 0 {
+    if path == 0 {
         return;
     }
-    octets_copies::store32(part, at, v);
+    octets_copies::store32(part, 6, v);
 }

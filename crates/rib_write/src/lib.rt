@@ -1,10 +1,12 @@
 // RIB bodies in lent output, given one entry at a time (RFC 6396, 4.3.4; RFC 8050, 4).
 mod add;
+mod rows;
 
 pub use add::add_entry;
 pub use add::open_rib;
 pub use add::push_entry;
 use answer::Refusal;
+pub use rows::push_entries;
 
 pub struct NewEntry {
     pub peer: u16,
@@ -22,5 +24,11 @@ pub struct Builder {
 
 pub enum BuilderAnswer {
     Open(Builder),
+    Refused(Refusal),
+}
+
+pub enum RowsAnswer {
+    // How many rows went in, and the builder after them.
+    Pushed { builder: Builder, rows: u16 },
     Refused(Refusal),
 }

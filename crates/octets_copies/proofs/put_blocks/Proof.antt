@@ -1,78 +1,104 @@
+use Prim.Native.Nat.{ℕ, _+_, _-_, _≤_, min}
+use mathlib.Core.Path.{_≡_, refl, _∙_, ap}
 use native.Mathlib.Omega.{arith}
-use Rattle.octets.proofs.Parts.{copy-ends}
+use lib.ListN.{length, take}
+use Rattle.octets.specs.Octets.{patch}
+use Rattle.octets.proofs.Stores.{length-patch}
+use Rattle.octets.proofs.Parts.{copy-over}
 use borrow.Author.Needs.{needs}
 use Rattle.octets_copies.proofs.put_blocks.Statement.{statement}
 use Rattle.octets_copies.proofs.put_blocks.Tie as tie
 
-put-block-requires : tie.Need-put-block-requires
-put-block-requires c κs = search needs
+-- so many octets are stored, and the next are taken up among them or straight after them
+abbrev Inv-loop : tie.InvT-loop
+Inv-loop out₀ at src m k last i₀ out i = (i ≤ last) × (n : ℕ) × (i ≤ n) × (n ≤ i + k) × (out ≡ patch out₀ at (take n src))
 
-sub-put-block : tie.Need-sub-put-block
-sub-put-block c = search needs
+abbrev μ-loop : tie.MeasureT-loop
+μ-loop out₀ at src m k last i₀ out i = last - i
 
-add-put-block : tie.Need-add-put-block
-add-put-block c = search needs
+least-requires : tie.Need-least-requires Inv-loop μ-loop
+least-requires c κs = search needs
 
-sub-put-block-2 : tie.Need-sub-put-block-2
-sub-put-block-2 c = search needs
+sub-last : tie.Need-sub-last Inv-loop μ-loop
+sub-last c = let e = c .least .ensures in omega arith
 
-put-block-requires-2 : tie.Need-put-block-requires-2
-put-block-requires-2 c κs = search needs
+loop-holds : tie.Need-loop-holds Inv-loop μ-loop
+unfolding patch
+loop-holds c = (omega arith, 0, omega arith, omega arith, refl)
 
-same-length : tie.Need-same-length
-same-length c = search needs
+add-put-eight : tie.Need-add-put-eight Inv-loop μ-loop
+add-put-eight c = let at-loop = c .before in let e = at-loop .before .least .ensures in let h = at-loop .loop .inv .0 in omega arith
 
-returns : tie.Need-returns
-returns c = let start = c .before .before .before .before .before .before .before .before .before .before .before in copy-ends _ _ _ _ 16 (start .pre .0) (c .before .before .before .before .before .before .before .before .if1 .taken) (start .pre .2) (start .pre .1) (c .before .before .before .before .before .before .put-block .ensures) (c .before .before .put-block2 .ensures)
+put-eight-requires : tie.Need-put-eight-requires Inv-loop μ-loop
+put-eight-requires c κs =
+    let at-loop = c .before in
+    let e = at-loop .before .least .ensures in
+    let h = at-loop .loop .inv .0 in
+    let l = ap length (at-loop .loop .inv .4) ∙ length-patch _ _ _ in
+    (omega arith, omega arith, omega arith, omega arith)
 
-put-two-requires : tie.Need-put-two-requires
-put-two-requires c κs = search needs
+same-length : tie.Need-same-length Inv-loop μ-loop
+same-length c =
+    let at-put = c .before .before .before in
+    ap length (at-put .put-eight .ensures) ∙ length-patch _ _ _ ∙ ap length (at-put .before .before .loop .inv .4) ∙ length-patch _ _ _
 
-sub-put-two : tie.Need-sub-put-two
-sub-put-two c = search needs
+returns : tie.Need-returns Inv-loop μ-loop
+returns c =
+    let at-put = c .before .before .before in
+    let at-loop = at-put .before .before in
+    let start = at-loop .before .before .before .before in
+    let e = at-loop .before .least .ensures in
+    let inv = at-loop .loop .inv in
+    let h = inv .0 in
+    let pre = start .pre in
+    let whole : at-loop .loop .i + at-loop .before .least .result ≡ start .args .m = omega arith in
+    rw whole at
+    (copy-over _ _ _ (inv .1) _ _ (inv .2) (inv .3) (omega arith) (omega arith) (inv .4) (at-put .put-eight .ensures))
 
-add-put-two : tie.Need-add-put-two
-add-put-two c = search needs
+add-least : tie.Need-add-least Inv-loop μ-loop
+add-least c =
+    let at-loop = c .before .before .before .before .before in
+    let e = at-loop .before .least .ensures in
+    let h = at-loop .loop .inv .0 in
+    omega arith
 
-sub-put-two-2 : tie.Need-sub-put-two-2
-sub-put-two-2 c = search needs
+least-requires-2 : tie.Need-least-requires-2 Inv-loop μ-loop
+least-requires-2 c κs = search needs
 
-put-two-requires-2 : tie.Need-put-two-requires-2
-put-two-requires-2 c κs = search needs
+loop-less : tie.Need-loop-less Inv-loop μ-loop
+loop-less c = let e = c .least2 .ensures in let h = c .before .before .before .before .before .before .loop .inv .0 in omega arith
 
-same-length-2 : tie.Need-same-length-2
-same-length-2 c = search needs
-
-returns-2 : tie.Need-returns-2
-returns-2 c = let start = c .before .before .before .before .before .before .before .before .before .before .before .before in copy-ends _ _ _ _ 32 (omega arith) (c .before .before .before .before .before .before .before .before .if2 .taken) (start .pre .2) (start .pre .1) (c .before .before .before .before .before .before .put-two .ensures) (c .before .before .put-two2 .ensures)
-
-put-fours-requires : tie.Need-put-fours-requires
-put-fours-requires c κs = search needs
-
-same-length-3 : tie.Need-same-length-3
-same-length-3 c = search needs
-
-returns-3 : tie.Need-returns-3
-returns-3 c = search needs
+loop-again : tie.Need-loop-again Inv-loop μ-loop
+loop-again c =
+    let at-put = c .before .before .before .before in
+    let at-loop = at-put .before .before in
+    let start = at-loop .before .before .before .before in
+    let e = at-loop .before .least .ensures in
+    let f = c .least2 .ensures in
+    let inv = at-loop .loop .inv in
+    let h = inv .0 in
+    let pre = start .pre in (
+      omega arith,
+      at-loop .loop .i + at-loop .before .least .result,
+      omega arith,
+      omega arith,
+      copy-over _ _ _ (inv .1) _ _ (inv .2) (inv .3) (omega arith) (omega arith) (inv .4) (at-put .put-eight .ensures),
+    )
 
 pub put-blocks-spec : {M : Type 1} → statement M
 put-blocks-spec =
     tie.close
     (tie.spec
-    put-block-requires
-    sub-put-block
-    add-put-block
-    sub-put-block-2
-    put-block-requires-2
+    Inv-loop
+    μ-loop
+    least-requires
+    sub-last
+    loop-holds
+    add-put-eight
+    put-eight-requires
     same-length
     returns
-    put-two-requires
-    sub-put-two
-    add-put-two
-    sub-put-two-2
-    put-two-requires-2
-    same-length-2
-    returns-2
-    put-fours-requires
-    same-length-3
-    returns-3)
+    add-least
+    least-requires-2
+    loop-less
+    loop-again)

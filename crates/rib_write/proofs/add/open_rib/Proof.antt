@@ -1,3 +1,5 @@
+use native.Mathlib.Omega.{arith}
+use Rattle.rib_head.specs.Layout.{prefixSize}
 use borrow.Author.Needs.{needs}
 use Rattle.rib_write.proofs.Answers.{open-unmet, open-left, open-over, open-met}
 use Rattle.rib_write.proofs.add.open_rib.Statement.{statement}
@@ -28,14 +30,12 @@ returns-2 c =
 octet-requires : tie.Need-octet-requires
 octet-requires c κs = search needs
 
-cast-at : tie.Need-cast-at
-cast-at c = search needs
+prefix-size-requires : tie.Need-prefix-size-requires
+prefix-size-requires c κs = search needs
 
 add-at : tie.Need-add-at
-add-at c = search needs
-
-add-at-2 : tie.Need-add-at-2
-add-at-2 c = search needs
+unfolding prefixSize
+add-at c = omega (arith, c .prefix-size .ensures)
 
 be16-requires : tie.Need-be16-requires
 be16-requires c κs = search needs
@@ -45,13 +45,14 @@ returns-3 c = open-unmet _ _ _ (c .before .before .before .after-entries .ensure
 
 returns-4 : tie.Need-returns-4
 returns-4 c =
-    let at-if2 = c .before .before in
+    let at-size = c .before in
+    let at-if2 = at-size .before .before in
     let at-if1 = at-if2 .before .before in
     let at-c = at-if1 .before .before .before in
     let at-after-entries = at-c .before .before in
     open-met _ _ _
     (at-after-entries .after-entries .ensures) (at-c .c .given .1) (at-if1 .if1 .left) (at-if2 .if2 .left)
-    (c .before .octet .ensures) (c .be16 .ensures)
+    (at-size .before .octet .ensures) (at-size .prefix-size .ensures) (c .be16 .ensures)
 
 pub open-rib-spec : {M : Type 1} → statement M
 open-rib-spec =
@@ -63,9 +64,8 @@ open-rib-spec =
     returns
     returns-2
     octet-requires
-    cast-at
+    prefix-size-requires
     add-at
-    add-at-2
     be16-requires
     returns-3
     returns-4)
