@@ -27,7 +27,8 @@ unfolding prefixSize
 prefix-le bits h e = omega arith
 
 -- the n octets that a prefix takes
-module _ (bits : ℕ) (prefix : List ℕ) (h : bits ≤ 128) {p : List ℕ} (e : p ≡ cleared bits prefix 16) {n : ℕ} (size : n ≡ prefixSize bits) where
+module _ (bits : ℕ) (prefix : List ℕ) (h : bits ≤ 128) {p : List ℕ} (e : p ≡ cleared bits prefix 16) {n : ℕ}
+    (size : n ≡ prefixSize bits) where
   -- they are there
   pub length-prefix : n ≡ length (take n p)
   length-prefix =

@@ -15,7 +15,8 @@ no-start-requires c κs = search needs
 returns : tie.Need-returns
 returns c =
     let at-count = c .before in
-    start-wrong _ _ _ _ _ _ (c .no-start .result) (c .no-start .ensures) (sym (at-count .before .wrong-count .ensures) ∙ at-count .if1 .taken)
+    start-wrong _ _ _ _ _ _ (c .no-start .result) (c .no-start .ensures)
+    (sym (at-count .before .wrong-count .ensures) ∙ at-count .if1 .taken)
 
 no-start-requires-2 : tie.Need-no-start-requires-2
 no-start-requires-2 c κs = search needs

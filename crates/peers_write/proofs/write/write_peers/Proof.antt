@@ -554,7 +554,8 @@ module _ {M : Type 1} (𝓤 : URA M) (H : Heap 𝓤) (A : Atoms 𝓤) (W : Given
           -- the result; …; the view name; the locals]
           keep ! (0 ∷ 1 ∷ 3 ∷ 6 ∷ 7 ∷ 10 ∷ 4 ∷ 11 ∷ 12 ∷ 13 ∷ 14 ∷ 15 ∷ 16 ∷ 17 ∷ 18 ∷ 19 ∷ 20 ∷ 21 ∷ 22 ∷ 23 ∷ 24 ∷ 25 ∷ 26 ∷ 27 ∷ 28 ∷ 29
           ∷ 30 ∷ 31 ∷ 32 ∷ 33 ∷ 34 ∷ 35 ∷ 36 ∷ 37 ∷ 38 ∷ 39 ∷ 40 ∷ 41 ∷ 42 ∷ 43 ∷ 44 ∷ 45 ∷ 46 ∷ 47 ∷ 48 ∷ []) $
-          looped g isG at-fits (zs .0) same g-is 𝓣 fm known (g-is ys refl f-is .held) q‴ l₀ l₁ l₂ l₃ l₄ l₅ l₆ l₇ l₈ l₉ l₁₀ l₁₁ l₁₂ l₁₃ l₁₄ l₁₅ l₁₆ l₁₇ l₁₈)))))))))
+          looped g isG at-fits (zs .0) same g-is 𝓣 fm known (g-is ys refl f-is .held) q‴
+          l₀ l₁ l₂ l₃ l₄ l₅ l₆ l₇ l₈ l₉ l₁₀ l₁₁ l₁₂ l₁₃ l₁₄ l₁₅ l₁₆ l₁₇ l₁₈)))))))))
 
   walk : (𝓣 : Tables 𝓤 H) (fm : FmC 𝓤 H (W .laws) (𝓣 .C)) → Triple 𝓤 (𝓣 .C #measure) (Measure 𝓤 H A at-mem run)
       → Triple 𝓤 (𝓣 .C #write-head) (Head 𝓤 H A at-mem run) → Triple 𝓤 (𝓣 .C #put-peer) (Put 𝓤 H A at-mem run)
@@ -667,4 +668,5 @@ write-peers-spec 𝓤 H 𝓜 𝓖 𝓡 =
     (measure-thm.met 𝓤 H 𝓜 𝓖 𝓡))
     (cited 𝓤 H (Head 𝓤 H (𝓖 .A) (𝓜 .mem) (𝓡 .run)) 𝓜 𝓡 code.env #write-head head-def.routine code.calls-peers-write·step·write-head
     (head-thm.met 𝓤 H 𝓜 𝓖 𝓡))
-    (cited 𝓤 H (Put 𝓤 H (𝓖 .A) (𝓜 .mem) (𝓡 .run)) 𝓜 𝓡 code.env #put-peer put-def.routine code.calls-peers-entry·put-peer (put-thm.met 𝓤 H 𝓜 𝓖 𝓡)))
+    (cited 𝓤 H (Put 𝓤 H (𝓖 .A) (𝓜 .mem) (𝓡 .run)) 𝓜 𝓡 code.env #put-peer put-def.routine code.calls-peers-entry·put-peer
+    (put-thm.met 𝓤 H 𝓜 𝓖 𝓡)))

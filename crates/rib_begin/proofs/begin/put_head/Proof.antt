@@ -34,7 +34,8 @@ put-octets-requires c κs = search needs
 
 add-put-be16 : tie.Need-add-put-be16
 add-put-be16 c =
-    let at-clear-after = c .before .before .before .before .before .before .before .before .before .before .before .before .before .before in
+    let at-put-octet = c .before .before .before .before .before .before .before .before in
+    let at-clear-after = at-put-octet .before .before .before .before .before .before in
     let at-size = at-clear-after .before in
     let at-start = at-size .before .before in
     omega (arith, prefix-le _ (at-start .pre) (at-size .prefix-size .ensures))
@@ -54,7 +55,8 @@ returns c =
     let at-clear-after = at-put-be32 .before .before in
     let at-size = at-clear-after .before in
     let at-start = at-size .before .before in
-    head-stored _ _ (at-start .pre) (at-clear-after .clear-after .ensures) (at-size .prefix-size .ensures) _ _ (at-put-be32 .put-be32 .ensures)
+    head-stored _ _ (at-start .pre) (at-clear-after .clear-after .ensures) (at-size .prefix-size .ensures) _ _
+    (at-put-be32 .put-be32 .ensures)
     (at-put-octet .put-octet .ensures) (at-put-octets .put-octets .ensures) (at-put-be16 .put-be16 .ensures)
 
 pub put-head-spec : {M : Type 1} → statement M
