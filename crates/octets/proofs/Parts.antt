@@ -1,9 +1,12 @@
 -- Parts of octets: of a list, and as they are lent and come back.
-use Prim.Native.Nat.{ℕ, zero, suc, _+_, _-_, _<_, _≤_}
+use Prim.Native.Nat.{ℕ, zero, suc, _+_, _-_, _≤_}
 use mathlib.Core.Path.{_≡_, refl, sym, _∙_, ap}
 use mathlib.Core.List.{List, [], _++_, append-assoc, append-nil}
+use mathlib.Core.Bool.{Bool, true, false}
 use native.Mathlib.Nat.{add-zero, le-of-eq}
 use native.Mathlib.Omega.{arith}
+use borrow.Author.Tests.{leb-true, leb-false, le-leb, lt-leb}
+use lib.Dec.{leb}
 use lib.ListN.{length, take, drop, length-take, length-drop, take-append-drop, drop-of-length-le, replicate}
 use lib.Seq.{take-all, length-take-le, take-add, drop-append-le, drop-drop}
 use Rattle.octets.specs.Octets.{beAt, bytesOf, patch, part, Octets}
@@ -20,6 +23,14 @@ part-rest s at = take-all (length s - at) (drop at s) (le-of-eq (length-drop at 
 -- a part and the part straight after it
 pub part-join : (s : List ℕ) (at n m : ℕ) → part s at n ++ part s (at + n) m ≡ part s at (n + m)
 part-join s at n m = sym (take-add n m (drop at s) ∙ ap (λ (l : List ℕ). part s at n ++ take m l) (drop-drop n at s))
+
+-- m octets from at on lie within n
+pub room-rest : (n at m : ℕ) → m ≤ n → leb at (n - m) ≡ leb (at + m) n
+room-rest n at m h = by-test (leb at (n - m)) refl
+  where
+    by-test : (t : Bool) → leb at (n - m) ≡ t → t ≡ leb (at + m) n
+    by-test true e = let l = leb-true at (n - m) e in sym (le-leb (at + m) n (omega arith))
+    by-test false e = let l = leb-false at (n - m) e in sym (lt-leb (at + m) n (omega arith))
 
 -- a number of a part is that of the whole
 pub be-part : (s : List ℕ) (at n i w : ℕ) → i + w ≤ n → beAt (part s at n) i w ≡ beAt s (at + i) w

@@ -1,5 +1,5 @@
 -- A body read into slots: what of it goes there, one turn, and the end.
-use Prim.Native.Nat.{ℕ, zero, suc, _+_, _-_, _<_, _≤_}
+use Prim.Native.Nat.{ℕ, zero, suc, _+_, _<_, _≤_}
 use mathlib.Core.Path.{_≡_, refl, sym, _∙_, ap}
 use mathlib.Core.List.{List}
 use mathlib.Core.Bool.{Bool, true, false, cond}
@@ -11,12 +11,12 @@ use lib.Seq.{getD-set-same, getD-set-other}
 use lib.Dec.{ltb, leb, eqb}
 use Rattle.answer.specs.Refusal.{numberOf}
 use Rattle.answer.specs.declared.Refusal.{Refusal}
-use Rattle.peers_entry.specs.Peer.{nobody, peerSize, peerAt, Reading, readPeer}
+use Rattle.peers_entry.specs.Peer.{nobody, peerAt, Reading, readPeer}
 use Rattle.peers_table.specs.Table.{Heading, heading, refused, endAt, lastEnd, checkPeers}
 use Rattle.peers_entry.specs.declared.Peer.{Peer}
 use Rattle.peers_table.specs.declared.TableAnswer.{TableAnswer}
 use Rattle.peers_table.specs.declared.TableAnswer.the-variants as B
-use Rattle.peers_table.proofs.Tables.{end-none, end-more, held-within}
+use Rattle.peers_table.proofs.Tables.{end-more, held-within}
 use Rattle.peers_entry.proofs.Records.{read-fits}
 use Rattle.peers_entry.proofs.Stored.{stored-read}
 use Rattle.peers_slots.proofs.AsStored.{AsStored}

@@ -2,7 +2,7 @@
 use Prim.Native.Nat.{ℕ, _+_, _-_, _/_, _%_, _<_, _≤_}
 use mathlib.Core.Path.{_≡_, refl, sym, _∙_, ap}
 use mathlib.Core.List.{List, [], _∷_, _++_}
-use mathlib.Core.Bool.{Bool, true, false, cond}
+use mathlib.Core.Bool.{Bool, true, false}
 use native.Mathlib.Nat.{zero-add}
 use native.Mathlib.Omega.{arith}
 use borrow.Author.Tests.{lt-ltb, le-ltb, lt-leb, eqb-true, eqb-false}
@@ -32,12 +32,15 @@ pub survey-is : {m n : ℕ} (left : Left) → m ≡ n → _≡_ {A = Survey} (re
 survey-is left e = rw e
 
 -- the sizes by the low two bits of the type
-pub size-row : (kind : ℕ) → getD (11 ∷ 23 ∷ 13 ∷ 25 ∷ []) (kind % 4) 0 ≡ peerSize kind
+abbrev sizes-row : List ℕ
+sizes-row = 11 ∷ 23 ∷ 13 ∷ 25 ∷ []
+
+pub size-row : (kind : ℕ) → getD sizes-row (kind % 4) 0 ≡ peerSize kind
 unfolding peerSize addressSize asSize wide
 size-row kind = by-tests (eqb (kind % 2) 1) (eqb (kind / 2 % 2) 1) refl refl
   where
     by-tests : (t u : Bool) → eqb (kind % 2) 1 ≡ t → eqb (kind / 2 % 2) 1 ≡ u
-        → getD (11 ∷ 23 ∷ 13 ∷ 25 ∷ []) (kind % 4) 0 ≡ 5 + cond (eqb (kind % 2) 1) 16 4 + cond (eqb (kind / 2 % 2) 1) 4 2
+        → getD sizes-row (kind % 4) 0 ≡ peerSize kind
     by-tests true true p q =
         let h : kind % 2 ≡ 1 = eqb-true _ _ p in
         let w : kind / 2 % 2 ≡ 1 = eqb-true _ _ q in

@@ -3,7 +3,6 @@ use mathlib.Core.Path.{_≡_, refl, sym, _∙_, ap}
 use lib.ListN.{length}
 use native.Mathlib.Omega.{arith}
 use borrow.Author.Needs.{needs}
-use Rattle.octets.specs.Octets.{patch}
 use Rattle.octets.proofs.Stores.{length-patch}
 use Rattle.octets.proofs.Parts.{patch-lent}
 use Rattle.mrt_lent.specs.Rows.{rowsFrom, rowsOut}

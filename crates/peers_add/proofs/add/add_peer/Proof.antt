@@ -1,9 +1,8 @@
 -- `peers_add::add_peer` meets its contract: a walk of its MIR, by hand. The slots' borrow is opened, and all of it is lent as a shared
 -- slice to `look_up` for a lifetime of that call; it comes back as it was. `place` then says which slot to write, if any, and the
 -- borrow is closed at the slots with the peer in it, or as they were. Assumes nothing.
-use mathlib.Core.Path.{_≡_, refl, sym, _∙_, ap, subst}
-use Prim.Native.Nat.{ℕ, _*_, _<_, _≤_, _^_}
-use mathlib.Core.Bool.{Bool}
+use mathlib.Core.Path.{_≡_, refl, sym, ap, subst}
+use Prim.Native.Nat.{ℕ, _*_, _<_, _^_}
 use mathlib.Core.List.{[], _∷_, List}
 use native.Mathlib.Omega.{arith}
 use lib.Dec.{ltb, ltb→lt, nltb→le}
@@ -59,7 +58,7 @@ use Rattle.peers_entry.proofs.stored_peer.Symbol as store-def
 use Rattle.peers_entry.proofs.stored_peer.Symbol.{name as #stored-peer}
 use Rattle.peers_entry.proofs.stored_peer.Met as store-thm
 use Rattle.peers_find.specs.Find.{finding, lookUp}
-use Rattle.peers_add.specs.Add.{Adding, adding, addPeer}
+use Rattle.peers_add.specs.Add.{adding, addPeer}
 use Rattle.peers_add.specs.Steps.{Placed}
 use Rattle.peers_find.specs.declared.FindAnswer.{FindAnswer}
 use Rattle.peers_add.specs.declared.AddAnswer.{AddAnswer}

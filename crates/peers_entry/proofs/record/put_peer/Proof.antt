@@ -48,7 +48,7 @@ put-address-requires c κs =
 add-put-as : tie.Need-add-put-as
 add-put-as c =
     let start = c .before .before .before .before .before .before .before .before .before .before .before .before .before .before .before
-        .before .before .before .before .before .args in
+    .before .before .before .before .before .args in
     omega (arith, address-le (start .p .kind), size-is (start .p .kind))
 
 put-as-requires : tie.Need-put-as-requires

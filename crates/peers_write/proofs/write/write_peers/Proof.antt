@@ -72,7 +72,7 @@ use Rattle.peers_slots.specs.Used.{inUse}
 use Rattle.peers_write.specs.Steps.{sizes, leaves, Starts}
 use Rattle.peers_write.specs.declared.Left.{Left}
 use Rattle.peers_write.specs.declared.Start.{Start}
-use Rattle.peers_slots.proofs.Shape.{stride, vals, low, word, sharedSlots, sharedOctets, lentOctets}
+use Rattle.peers_slots.proofs.Shape.{stride, vals, word, sharedSlots, sharedOctets, lentOctets}
 use Rattle.peers_write.proofs.Again.{LentAgain, lends-at, back-at}
 use Rattle.peers_write.proofs.Writes.{written-none, written-turn, write-room, write-is}
 use Rattle.peers_write.proofs.Left as F
