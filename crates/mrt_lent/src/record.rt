@@ -13,7 +13,8 @@ pub fn record_values(
     body: usize,
     end: usize,
 ) -> [u64; 10]
-    ensures { λ r. ⌜ r ≡ answer ∷ start ∷ header .timestamp ∷ header .kind ∷ header .subtype ∷ wire .0 ∷ header .length .0 ∷ header .micros ∷ body ∷ end ∷ [] ⌝ }
+    ensures { λ r. ⌜ r ≡ answer ∷ start ∷ header .timestamp ∷ header .kind ∷ header .subtype
+        ∷ wire .0 ∷ header .length .0 ∷ header .micros ∷ body ∷ end ∷ [] ⌝ }
 {
     let length = header.length;
     [

@@ -9,7 +9,7 @@ use lib.Dec.{ltb, eqb}
 use Rattle.mrt_lent.specs.Export.{sixteenOf}
 use Rattle.peers_entry.specs.declared.Peer.{Peer}
 use Rattle.peers_slots.specs.Used.{wrongCount}
-use Rattle.peers_add.specs.Add.{adding, appendPeer, addPeer}
+use Rattle.peers_add.specs.Add.{adding, addPeer}
 use Rattle.peers_add.specs.declared.AddAnswer.{AddAnswer}
 use Rattle.peers_add.specs.declared.AddAnswer.the-variants.{Known, Added, Refused}
 use Rattle.peers_find.specs.Find.{Finding, lookUp, findPeer}
@@ -85,7 +85,7 @@ same-answer (Refused why) l = refl
 
 module _ (ys : List Peer) (count kind id : ℕ) (addr : List ℕ) (asn : ℕ) where
   adds : addedOut (addPeer ys (countFor count (length addr)) (peerFor kind id addr asn)) ≡ addOut ys count kind id addr asn
-  unfolding countFor addOut addPeer appendPeer lookUp
+  unfolding countFor addOut addPeer
   adds = by-size (ltb (length addr) 16) refl
     where
       by-size : (t : Bool) → ltb (length addr) 16 ≡ t

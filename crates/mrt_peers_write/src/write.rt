@@ -14,7 +14,8 @@ pub extern "C" fn mrt_write_peers(
     slots: &[Peer],
     count: usize,
 ) -> Wrote
-    ensures answer { λ r. ⌜ (now (out .exit), r) ≡ writtenOut (writePeers (now (out .entry)) collector (now (view .entry)) (now (slots .entry)) count) ⌝ }
+    ensures answer { λ r. ⌜ (now (out .exit), r)
+        ≡ writtenOut (writePeers (now (out .entry)) collector (now (view .entry)) (now (slots .entry)) count) ⌝ }
 {
     mrt_lent::wrote_of(peers_write::write_peers(out, collector, view, slots, count))
 }

@@ -10,7 +10,8 @@ use mrt_lent::refusal;
 // The head of a RIB body, and its prefix in 16 octets.
 #[no_mangle]
 pub extern "C" fn mrt_read_rib(body: &[u8], subtype: u16, out: &mut [u64], prefix: &mut [u8]) -> u32
-    ensures answer { λ r. ⌜ (now (out .exit), (now (prefix .exit), r)) ≡ ribOut (now (out .entry)) (now (prefix .entry)) (ribOf (now (body .entry)) subtype) ⌝ }
+    ensures answer { λ r. ⌜ (now (out .exit), (now (prefix .exit), r))
+        ≡ ribOut (now (out .entry)) (now (prefix .entry)) (ribOf (now (body .entry)) subtype) ⌝ }
 {
     let rib = rib_read::read_rib(body, subtype);
     let outcome = rib.outcome;

@@ -54,7 +54,8 @@ pub extern "C" fn mrt_rib_next(
     left: u16,
     out: &mut [u64],
 ) -> u32
-    ensures answer { λ r. ⌜ (now (out .exit), r) ≡ stepOut (now (out .entry)) (nextOf (now (body .entry)) subtype (record { at = at; left = left })) ⌝ }
+    ensures answer { λ r. ⌜ (now (out .exit), r)
+        ≡ stepOut (now (out .entry)) (nextOf (now (body .entry)) subtype (record { at = at; left = left })) ⌝ }
 {
     match rib_entries::next_entry(body, subtype, Cursor { at, left }) {
         NextAnswer::Refused(r) => refusal(r),

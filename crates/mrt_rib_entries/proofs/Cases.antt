@@ -15,7 +15,8 @@ use Rattle.mrt_lent.specs.declared.Handed.{Handed}
 use Rattle.mrt_rib_entries.specs.Entries.{entryTurn, entryAt, holdsCursor, cursorIn, entriesOut}
 
 -- the answer a, which is b
-pub entry-found : (s : List ℕ) (t : ℕ) (c : Cursor) {a b : NextAnswer} → nextValues a ≡ nextOf s t c → a ≡ b → entryAt s t c ≡ entryTurn (nextValues b)
+pub entry-found : (s : List ℕ) (t : ℕ) (c : Cursor) {a b : NextAnswer} → nextValues a ≡ nextOf s t c → a ≡ b
+    → entryAt s t c ≡ entryTurn (nextValues b)
 unfolding entryAt
 entry-found s t c q e = ap entryTurn (sym q ∙ ap nextValues e)
 

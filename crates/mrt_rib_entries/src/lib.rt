@@ -23,7 +23,8 @@ pub extern "C" fn mrt_rib_entries(
     cursor: &mut [u64],
     out: &mut [u64],
 ) -> Handed
-    ensures answer { λ r. ⌜ (now (cursor .exit), (now (out .exit), r)) ≡ entriesOut (now (body .entry)) subtype (now (cursor .entry)) (now (out .entry)) ⌝ }
+    ensures answer { λ r. ⌜ (now (cursor .exit), (now (out .exit), r))
+        ≡ entriesOut (now (body .entry)) subtype (now (cursor .entry)) (now (out .entry)) ⌝ }
 {
     if cursor.len() < 2 {
         return mrt_lent::none_handed(8);
@@ -55,7 +56,9 @@ pub extern "C" fn mrt_rib_entries(
 
 // Entries from a cursor on, in the places that are lent for them.
 fn take_entries(body: &[u8], subtype: u16, at: usize, left: u16, out: &mut [u64]) -> Taken
-    ensures { λ r. ⌜ (now (out .exit), (r .count, r .next)) ≡ rowsOut (now (out .entry)) (rowsFrom (entryAt (now (body .entry)) subtype) (length (now (out .entry)) / 5) (record { at = at; left = left })) ⌝ }
+    ensures { λ r. ⌜ (now (out .exit), (r .count, r .next))
+        ≡ rowsOut (now (out .entry))
+        (rowsFrom (entryAt (now (body .entry)) subtype) (length (now (out .entry)) / 5) (record { at = at; left = left })) ⌝ }
 {
     let n = out.len();
     let mut c = Cursor { at, left };

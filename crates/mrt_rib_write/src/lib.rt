@@ -37,7 +37,8 @@ pub extern "C" fn mrt_add_entry(
     path: u32,
     attributes: &[u8],
 ) -> Wrote
-    ensures answer { λ r. ⌜ (now (out .exit), r) ≡ writtenOut (addEntry (now (out .entry)) len subtype (record { peer = peer; originated = originated; path = path }) (now (attributes .entry))) ⌝ }
+    ensures answer { λ r. ⌜ (now (out .exit), r) ≡ writtenOut (addEntry (now (out .entry)) len subtype
+        (record { peer = peer; originated = originated; path = path }) (now (attributes .entry))) ⌝ }
 {
     let e = NewEntry {
         peer,

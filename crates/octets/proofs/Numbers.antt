@@ -4,11 +4,12 @@ use Prim.Native.Nat.{ℕ, zero, suc, _+_, _*_, _/_, _%_, _^_, _<_, _≤_}
 use mathlib.Core.Path.{_≡_, refl, sym, _∙_, ap}
 use mathlib.Core.List.{List, [], _∷_, _++_, append-assoc, append-nil}
 use mathlib.Core.Bool.{Bool, true, false, _&&_}
-use native.Mathlib.Nat.{add-zero, add-suc, suc-add, add-assoc, mul-assoc, add-mul, mul-one, pow-suc, div-lt-iff-lt-mul, div-add-mod', mod-lt, one-le-pow}
+use native.Mathlib.Nat.{add-zero, add-suc, add-assoc, mul-assoc, mul-one, pow-suc}
+use native.Mathlib.Nat.{div-lt-iff-lt-mul, div-add-mod', mod-lt, one-le-pow}
 use native.Mathlib.Omega.{arith}
 use borrow.Author.Tests.{eq-eqb, ne-eqb, eqb-true, eqb-false}
 use lib.Dec.{eqb}
-use lib.ListN.{length, getD, take, drop, length-append, length-take, length-drop, List·getD-eq-default}
+use lib.ListN.{length, getD, take, drop, length-append, length-drop, List·getD-eq-default}
 use lib.Seq.{getD-take, getD-drop, getD-at, take-suc}
 use Rattle.octets.specs.Octets.{beAt, bytesOf, part, Octets}
 
@@ -18,7 +19,8 @@ unfolding beAt
 be-join s at n zero = rw (add-zero, add-zero) (mul-one (beAt s at n))
 be-join s at n (suc m) =
     let e : beAt s at n * 256 ^ m + beAt s (at + n) m ≡ beAt s at (n + m) = be-join s at n m in
-    let p : beAt s at n * 256 ^ suc m ≡ beAt s at n * 256 ^ m * 256 = ap (λ (k : ℕ). beAt s at n * k) (pow-suc 256 m) ∙ sym (mul-assoc (beAt s at n) (256 ^ m) 256) in
+    let p : beAt s at n * 256 ^ suc m ≡ beAt s at n * 256 ^ m * 256 =
+    ap (λ (k : ℕ). beAt s at n * k) (pow-suc 256 m) ∙ sym (mul-assoc (beAt s at n) (256 ^ m) 256) in
     rw (add-suc, p, ← add-assoc at n m) (omega arith)
 
 pub be-one : (s : List ℕ) (at : ℕ) → getD s at 0 ≡ beAt s at 1
@@ -26,7 +28,8 @@ unfolding beAt
 be-one s at = rw add-zero (omega arith)
 
 -- a number put together from its two halves
-pub be-halves : (s : List ℕ) (at n m : ℕ) {high low : ℕ} → high ≡ beAt s at n → low ≡ beAt s (at + n) m → high * 256 ^ m + low ≡ beAt s at (n + m)
+pub be-halves : (s : List ℕ) (at n m : ℕ) {high low : ℕ} → high ≡ beAt s at n → low ≡ beAt s (at + n) m
+    → high * 256 ^ m + low ≡ beAt s at (n + m)
 be-halves s at n m h l = rw (h, l) (be-join s at n m)
 
 -- past the end there are zeros
@@ -59,7 +62,8 @@ digit x y z w l k true false p q = sym (ne-eqb (x * 256 + y) (z * 256 + w) (λ e
 digit x y z w l k false u p q = sym (ne-eqb (x * 256 + y) (z * 256 + w) (λ e. eqb-false x z p (omega arith)))
 
 -- an octet more: two numbers are equal exactly where their octets are
-pub be-same : (a b : List ℕ) (at n : ℕ) → Octets a → Octets b → (eqb (beAt a at n) (beAt b at n) && eqb (getD a (at + n) 0) (getD b (at + n) 0)) ≡ eqb (beAt a at (suc n)) (beAt b at (suc n))
+pub be-same : (a b : List ℕ) (at n : ℕ) → Octets a → Octets b
+    → (eqb (beAt a at n) (beAt b at n) && eqb (getD a (at + n) 0) (getD b (at + n) 0)) ≡ eqb (beAt a at (suc n)) (beAt b at (suc n))
 unfolding beAt
 be-same a b at n o p = digit (beAt a at n) (getD a (at + n) 0) (beAt b at n) (getD b (at + n) 0) (o (at + n)) (p (at + n)) _ _ refl refl
 
@@ -86,7 +90,9 @@ bytes-join n (suc m) high low h =
 
 -- v in n octets and the m after them
 pub bytes-halves : (n m v : ℕ) → bytesOf n (v / 256 ^ m) ++ bytesOf m (v % 256 ^ m) ≡ bytesOf (n + m) v
-bytes-halves n m v = bytes-join n m (v / 256 ^ m) (v % 256 ^ m) (mod-lt v (one-le-pow m 256 (omega arith))) ∙ ap (bytesOf (n + m)) (div-add-mod' v (256 ^ m))
+bytes-halves n m v =
+    bytes-join n m (v / 256 ^ m) (v % 256 ^ m) (mod-lt v (one-le-pow m 256 (omega arith)))
+    ∙ ap (bytesOf (n + m)) (div-add-mod' v (256 ^ m))
 
 -- what is written is read back
 pub be-of-bytes : (n v : ℕ) (p q : List ℕ) → v < 256 ^ n → beAt (p ++ bytesOf n v ++ q) (length p) n ≡ v
@@ -94,7 +100,8 @@ unfolding beAt bytesOf
 be-of-bytes zero v p q h = omega arith
 be-of-bytes (suc n) v p q h =
     let b : List ℕ = bytesOf n (v / 256) in
-    let e : p ++ (b ++ (v % 256 ∷ [])) ++ q ≡ p ++ b ++ (v % 256 ∷ q) = ap (λ (l : List ℕ). l ++ q) (sym (append-assoc p b (v % 256 ∷ []))) ∙ append-assoc (p ++ b) (v % 256 ∷ []) q in
+    let e : p ++ (b ++ (v % 256 ∷ [])) ++ q ≡ p ++ b ++ (v % 256 ∷ q) =
+    ap (λ (l : List ℕ). l ++ q) (sym (append-assoc p b (v % 256 ∷ []))) ∙ append-assoc (p ++ b) (v % 256 ∷ []) q in
     let l : length (p ++ b) ≡ length p + n = length-append p b ∙ ap (λ (k : ℕ). length p + k) (length-bytes n (v / 256)) in
     let k : v / 256 < 256 ^ n = div-lt-iff-lt-mul {k = 256} {x = v} {y = 256 ^ n} (omega arith) .1 (rw pow-suc at h) in
     rw (e, be-of-bytes n (v / 256) p (v % 256 ∷ q) k, getD-at (p ++ b) (v % 256) q 0 (length p + n) l) (div-add-mod' v 256)

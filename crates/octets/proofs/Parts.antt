@@ -1,9 +1,12 @@
 -- Parts of octets: of a list, and as they are lent and come back.
-use Prim.Native.Nat.{ℕ, zero, suc, _+_, _-_, _<_, _≤_}
+use Prim.Native.Nat.{ℕ, zero, suc, _+_, _-_, _≤_}
 use mathlib.Core.Path.{_≡_, refl, sym, _∙_, ap}
 use mathlib.Core.List.{List, [], _++_, append-assoc, append-nil}
+use mathlib.Core.Bool.{Bool, true, false}
 use native.Mathlib.Nat.{add-zero, le-of-eq}
 use native.Mathlib.Omega.{arith}
+use borrow.Author.Tests.{leb-true, leb-false, le-leb, lt-leb}
+use lib.Dec.{leb}
 use lib.ListN.{length, take, drop, length-take, length-drop, take-append-drop, drop-of-length-le, replicate}
 use lib.Seq.{take-all, length-take-le, take-add, drop-append-le, drop-drop}
 use Rattle.octets.specs.Octets.{beAt, bytesOf, patch, part, Octets}
@@ -21,6 +24,14 @@ part-rest s at = take-all (length s - at) (drop at s) (le-of-eq (length-drop at 
 pub part-join : (s : List ℕ) (at n m : ℕ) → part s at n ++ part s (at + n) m ≡ part s at (n + m)
 part-join s at n m = sym (take-add n m (drop at s) ∙ ap (λ (l : List ℕ). part s at n ++ take m l) (drop-drop n at s))
 
+-- m octets from at on lie within n
+pub room-rest : (n at m : ℕ) → m ≤ n → leb at (n - m) ≡ leb (at + m) n
+room-rest n at m h = by-test (leb at (n - m)) refl
+  where
+    by-test : (t : Bool) → leb at (n - m) ≡ t → t ≡ leb (at + m) n
+    by-test true e = let l = leb-true at (n - m) e in sym (le-leb (at + m) n (omega arith))
+    by-test false e = let l = leb-false at (n - m) e in sym (lt-leb (at + m) n (omega arith))
+
 -- a number of a part is that of the whole
 pub be-part : (s : List ℕ) (at n i w : ℕ) → i + w ≤ n → beAt (part s at n) i w ≡ beAt s (at + i) w
 be-part s at n i w h = be-take (drop at s) n i w h ∙ be-drop s at i w
@@ -30,7 +41,8 @@ pub be-front : (s : List ℕ) (at end w : ℕ) → at + w ≤ end → beAt (part
 be-front s at end w h = be-part s at (end - at) 0 w (omega arith) ∙ ap (λ (k : ℕ). beAt s k w) (add-zero at)
 
 -- stores at the front of the part that was lent from e to end, seen in the whole
-pub patch-lent : (s : List ℕ) (e end n : ℕ) (bs : List ℕ) {t : List ℕ} → length bs ≡ n → end ≤ length s → e + n ≤ end → t ≡ patch (part s e (end - e)) 0 bs
+pub patch-lent : (s : List ℕ) (e end n : ℕ) (bs : List ℕ) {t : List ℕ} → length bs ≡ n → end ≤ length s → e + n ≤ end
+    → t ≡ patch (part s e (end - e)) 0 bs
     → take e s ++ (t ++ drop (end - e) (drop e s)) ≡ patch s e bs
 patch-lent s e end n bs {t} z h l q =
     let k : ℕ = end - e in
@@ -72,7 +84,8 @@ pub copy-block : (s l : List ℕ) (to at : ℕ) {t : List ℕ} → to + 16 ≤ l
 copy-block s l to at h k q =
     let z : at + 16 - at ≡ 16 = omega arith in
     let n : length (part l at 16) ≡ 16 = length-part l at 16 k in
-    let e : take 16 (part l at (at + 16 - at)) ≡ part l at 16 = ap (λ (m : ℕ). take 16 (part l at m)) z ∙ take-all 16 (part l at 16) (le-of-eq n) in
+    let e : take 16 (part l at (at + 16 - at)) ≡ part l at 16 =
+    ap (λ (m : ℕ). take 16 (part l at m)) z ∙ take-all 16 (part l at 16) (le-of-eq n) in
     patch-lent s to (to + 16) 16 (part l at 16) n h (omega arith) (q ∙ ap (patch (part s to (to + 16 - to)) 0) e)
 
 -- n octets from e on, over some of them that are stored already
@@ -85,10 +98,10 @@ copy-over s l at i e n {t} {u} b c d f p q =
     let k : length (part l e (i - e)) ≡ i - e = length-part l e (i - e) (omega arith) in
     let j : length (part l e n) ≡ n = length-part l e n (omega arith) in
     let g : length r ≡ length s = length-patch s at (take e l) in
-    let before : t ≡ patch r (at + e) (part l e (i - e)) = p ∙ ap (λ (v : ℕ). patch s at (take v l)) (sym x) ∙ sym (copy-part s l at e (i - e) (omega
-    arith) refl refl) in
-    copy-part s l at e n (omega arith) refl (q ∙ ap (λ (v : List ℕ). patch v (at + e) (part l e n)) before ∙ patch-over r (at + e) (part l e
-    (i - e)) (part l e n) (omega arith) (omega arith))
+    let before : t ≡ patch r (at + e) (part l e (i - e)) =
+    p ∙ ap (λ (v : ℕ). patch s at (take v l)) (sym x) ∙ sym (copy-part s l at e (i - e) (omega arith) refl refl) in
+    copy-part s l at e n (omega arith) refl (q ∙ ap (λ (v : List ℕ). patch v (at + e) (part l e n)) before
+    ∙ patch-over r (at + e) (part l e (i - e)) (part l e n) (omega arith) (omega arith))
 
 -- the first n octets of m, and then the last n
 pub copy-ends : (s l : List ℕ) (at m n : ℕ) {t u : List ℕ} → n ≤ m → m ≤ n + n → m ≤ length l → at + m ≤ length s

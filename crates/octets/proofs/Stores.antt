@@ -23,7 +23,8 @@ patch-run [] ys s at = rw add-zero
 patch-run (x ∷ xs) ys s at = rw (add-suc, ← suc-add) (patch-run xs ys (set s at x) (suc at))
 
 -- t is s after one run of k octets, and u is t after the next
-pub stores : (s : List ℕ) (at k : ℕ) (xs ys : List ℕ) {t u : List ℕ} → length xs ≡ k → t ≡ patch s at xs → u ≡ patch t (at + k) ys → u ≡ patch s at (xs ++ ys)
+pub stores : (s : List ℕ) (at k : ℕ) (xs ys : List ℕ) {t u : List ℕ} → length xs ≡ k → t ≡ patch s at xs → u ≡ patch t (at + k) ys
+    → u ≡ patch s at (xs ++ ys)
 stores s at k xs ys l p q = q ∙ rw (p, ← l) (patch-run xs ys s at)
 
 -- past the end nothing is stored
@@ -33,7 +34,8 @@ patch-beyond s at [] h = refl
 patch-beyond s at (b ∷ bs) h = rw (set-out s at b h) (patch-beyond s (suc at) bs (omega arith))
 
 -- where there is room: what stood before, the octets, and what stood after
-pub patch-within : (s : List ℕ) (at : ℕ) (bs : List ℕ) → at + length bs ≤ length s → patch s at bs ≡ take at s ++ bs ++ drop (at + length bs) s
+pub patch-within : (s : List ℕ) (at : ℕ) (bs : List ℕ) → at + length bs ≤ length s
+    → patch s at bs ≡ take at s ++ bs ++ drop (at + length bs) s
 unfolding patch
 patch-within s at bs h = sets-eq bs s at h
 
@@ -49,7 +51,8 @@ patch-between p a b q at l e =
     ∙ rw (take-at p (a ++ q) at l, ← append-assoc p a q, drop-at (p ++ a) q (at + length b) k, append-assoc p b q)
 
 -- octets stored over as many others, and over fewer
-over-same : (s : List ℕ) (at : ℕ) (xs ys : List ℕ) → length xs ≡ length ys → at + length xs ≤ length s → patch (patch s at xs) at ys ≡ patch s at ys
+over-same : (s : List ℕ) (at : ℕ) (xs ys : List ℕ) → length xs ≡ length ys → at + length xs ≤ length s
+    → patch (patch s at xs) at ys ≡ patch s at ys
 over-same s at xs ys e h =
     let p : List ℕ = take at s in
     let q : List ℕ = drop (at + length xs) s in
@@ -58,7 +61,8 @@ over-same s at xs ys e h =
     ∙ patch-between p xs ys q at l e
     ∙ sym (append-assoc p ys q) ∙ ap (λ (n : ℕ). p ++ ys ++ drop (at + n) s) e ∙ sym (patch-within s at ys (omega arith))
 
-pub patch-over : (s : List ℕ) (at : ℕ) (xs ys : List ℕ) → length xs ≤ length ys → at + length xs ≤ length s → patch (patch s at xs) at ys ≡ patch s at ys
+pub patch-over : (s : List ℕ) (at : ℕ) (xs ys : List ℕ) → length xs ≤ length ys → at + length xs ≤ length s
+    → patch (patch s at xs) at ys ≡ patch s at ys
 patch-over s at xs ys e h =
     let n : ℕ = length xs in
     let f : List ℕ = take n ys in
@@ -82,7 +86,8 @@ patch-part (x ∷ s) (suc e) at bs h = rw suc-add (ap (λ (t : List ℕ). x ∷ 
     under (b ∷ bs) s j = under bs (set s j b) (suc j)
 
 -- one turn of a copy: the first i octets of src are stored, and then the next
-pub copy-turn : (s src : List ℕ) (at i : ℕ) {t : List ℕ} → i < length src → t ≡ patch s at (take i src) → set t (at + i) (getD src i 0) ≡ patch s at (take (i + 1) src)
+pub copy-turn : (s src : List ℕ) (at i : ℕ) {t : List ℕ} → i < length src → t ≡ patch s at (take i src)
+    → set t (at + i) (getD src i 0) ≡ patch s at (take (i + 1) src)
 unfolding patch
 copy-turn s src at i h e =
     let l : length (take i src) ≡ i = length-take-le i src (omega arith) in
@@ -92,7 +97,8 @@ pub copy-all : (s src : List ℕ) (at : ℕ) {t : List ℕ} {i m : ℕ} → i �
 copy-all s src at {t} {i} {m} u v p = let z : i ≡ m = omega arith in rw z at p
 
 -- a copy ends with src, or where the room does: what of src has no room is dropped
-pub copy-done : (s src : List ℕ) (at : ℕ) {t : List ℕ} {i m : ℕ} → i ≤ m → m ≤ i → m ≡ min (length s - at) (length src) → t ≡ patch s at (take i src) → t ≡ patch s at src
+pub copy-done : (s src : List ℕ) (at : ℕ) {t : List ℕ} {i m : ℕ} → i ≤ m → m ≤ i → m ≡ min (length s - at) (length src)
+    → t ≡ patch s at (take i src) → t ≡ patch s at src
 copy-done s src at {t} {i} {m} u v h p = p ∙ by-test (leb (length src) i) refl
   where
     by-test : (t : Bool) → leb (length src) i ≡ t → patch s at (take i src) ≡ patch s at src

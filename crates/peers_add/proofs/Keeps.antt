@@ -18,8 +18,8 @@ use Rattle.peers_slots.specs.Used.{wrongCount}
 use Rattle.peers_slots.proofs.Counts.{right}
 use Rattle.peers_slots.proofs.AsStored.{AsStored}
 use Rattle.peers_find.specs.Find.{found, lost, highest, lookUp, findPeer}
-use Rattle.peers_find.proofs.Highest.{look-up-highest, looked-right, highest-kept, find-own}
-use Rattle.peers_add.specs.Add.{Adding, notAdded, appendPeer, addPeer}
+use Rattle.peers_find.proofs.Highest.{look-up-highest, looked-right, found-right, highest-kept, find-own}
+use Rattle.peers_add.specs.Add.{Adding, notAdded, addPeer}
 
 module _ (l : List Peer) (count : ℕ) (p : Peer) where
   -- the slots with the new peer
@@ -33,26 +33,21 @@ module _ (l : List Peer) (count : ℕ) (p : Peer) where
         → Case (record { number = 0; id = count; added = 1; slots = grown })
     not-taken : (n : ℕ) → (n ≡ 0 → ⊥) → Case (notAdded n l)
 
-  append-case : lookUp l count p ≡ lost 8 → Case (appendPeer l count p)
-  unfolding appendPeer
-  append-case unknown = by-count (wrongCount (length l) count) refl (leb 65535 count) refl (leb (length l) count) refl
-    where
-      by-count : (a : Bool) → wrongCount (length l) count ≡ a → (b : Bool) → leb 65535 count ≡ b → (c : Bool) → leb (length l) count ≡ c
-          → Case (cond a (notAdded 8 l) (cond b (notAdded 10 l) (cond c (notAdded 9 l)
-          (record { number = 0; id = count; added = 1; slots = grown }))))
-      by-count true w b u c v = not-taken 8 (λ z. omega arith)
-      by-count false w true u c v = not-taken 10 (λ z. omega arith)
-      by-count false w false u true v = not-taken 9 (λ z. omega arith)
-      by-count false w false u false v = new unknown w (leb-false _ _ u) (leb-false _ _ v)
-
   case : Case (addPeer l count p)
   unfolding addPeer
-  case = by-known (eqb (lookUp l count p .number) 0) refl
+  case =
+      by-tests (wrongCount (length l) count) refl (eqb (lookUp l count p .number) 0) refl (leb 65535 count) refl (leb (length l) count) refl
     where
-      by-known : (t : Bool) → eqb (lookUp l count p .number) 0 ≡ t
-          → Case (cond t (record { number = 0; id = lookUp l count p .id; added = 0; slots = l }) (appendPeer l count p))
-      by-known true e = known (lookUp l count p .id) (look-up-highest l count p .zero-found (eqb-true _ _ e))
-      by-known false e = append-case (look-up-highest l count p .other-lost (eqb-false _ _ e))
+      by-tests : (a : Bool) → wrongCount (length l) count ≡ a → (b : Bool) → eqb (lookUp l count p .number) 0 ≡ b → (c : Bool)
+          → leb 65535 count ≡ c → (d : Bool) → leb (length l) count ≡ d
+          → Case (cond a (notAdded 8 l) (cond b (record { number = 0; id = lookUp l count p .id; added = 0; slots = l })
+          (cond c (notAdded 10 l) (cond d (notAdded 9 l) (record { number = 0; id = count; added = 1; slots = grown })))))
+      by-tests true w b k c u d v = not-taken 8 (λ z. omega arith)
+      by-tests false w true k c u d v = known (lookUp l count p .id) (look-up-highest l count p .zero-found (eqb-true _ _ k))
+      by-tests false w false k true u d v = not-taken 10 (λ z. omega arith)
+      by-tests false w false k false u true v = not-taken 9 (λ z. omega arith)
+      by-tests false w false k false u false v =
+          new (look-up-highest l count p .other-lost (eqb-false _ _ k)) w (leb-false _ _ u) (leb-false _ _ v)
 
   -- the first slots, and every other than the new one, keep their peers
   grown-kept : (j : ℕ) → (j ≡ count → ⊥) → getD grown j nobody ≡ getD l j nobody
@@ -143,17 +138,19 @@ module _ (l : List Peer) (count : ℕ) (p : Peer) where
 
   -- THEOREM. Where fewer than 65,535 peers are in use and a slot is left, none is refused; a known one never is.
   pub room-taken : count < 65535 → count < length l → addPeer l count p .number ≡ 0
-  unfolding addPeer appendPeer
+  unfolding addPeer
   room-taken few room = by-known (eqb (lookUp l count p .number) 0) refl
     where
+      count-right : wrongCount (length l) count ≡ false
+      count-right = right (length l) count (omega arith) (omega arith)
+
       by-known : (t : Bool) → eqb (lookUp l count p .number) 0 ≡ t → addPeer l count p .number ≡ 0
-      by-known true e = simp e
-      by-known false e =
-          simp (e, right (length l) count (omega arith) (omega arith), lt-leb 65535 count few, lt-leb (length l) count room)
+      by-known true e = simp (count-right, e)
+      by-known false e = simp (count-right, e, lt-leb 65535 count few, lt-leb (length l) count room)
 
   pub known-taken : lookUp l count p .number ≡ 0 → addPeer l count p .number ≡ 0
   unfolding addPeer
-  known-taken z = simp (eq-eqb _ _ z)
+  known-taken z = simp (found-right l count p _ (look-up-highest l count p .zero-found z), eq-eqb _ _ z)
 
   -- THEOREM. A refused peer changes nothing.
   pub refused-keeps : (addPeer l count p .number ≡ 0 → ⊥) → addPeer l count p .slots ≡ l

@@ -1,5 +1,5 @@
--- Adding a peer (01, Peer table): a known address gives its id and changes nothing; otherwise the id is the count.
--- Refusals: 8 for a wrong count, 10 at 65,535 peers, 9 for no slot.
+-- Adding a peer (01, Peer table): 8 for a wrong count; then a known address gives its id and changes nothing; otherwise the id is
+-- the count, with 10 at 65,535 peers, then 9 for no slot.
 use Prim.Native.Nat.{ℕ}
 use mathlib.Core.List.{List}
 use mathlib.Core.Bool.{cond}
@@ -30,17 +30,11 @@ adding (Refused r) l = record { number = numberOf r; id = 0; added = 0; slots = 
 abbrev pub notAdded : ℕ → List Peer → Adding
 notAdded n l = record { number = n; id = 0; added = 0; slots = l }
 
--- a peer in the slot after the last one in use, its address looked for nowhere
-unfoldable pub appendPeer : List Peer → ℕ → Peer → Adding
-appendPeer l count p =
-    cond (wrongCount (length l) count) (notAdded 8 l)
-    (cond (leb 65535 count) (notAdded 10 l)
-    (cond (leb (length l) count) (notAdded 9 l)
-    (record { number = 0; id = count; added = 1; slots = set l count (stored p) })))
-
--- a peer, where its address is not known yet
+-- the peer p where the first count of the slots l are in use
 unfoldable pub addPeer : List Peer → ℕ → Peer → Adding
 addPeer l count p =
-    cond (eqb (lookUp l count p .number) 0)
-    (record { number = 0; id = lookUp l count p .id; added = 0; slots = l })
-    (appendPeer l count p)
+    cond (wrongCount (length l) count) (notAdded 8 l)
+    (cond (eqb (lookUp l count p .number) 0) (record { number = 0; id = lookUp l count p .id; added = 0; slots = l })
+    (cond (leb 65535 count) (notAdded 10 l)
+    (cond (leb (length l) count) (notAdded 9 l)
+    (record { number = 0; id = count; added = 1; slots = set l count (stored p) }))))

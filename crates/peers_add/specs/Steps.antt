@@ -1,23 +1,16 @@
 -- What the helpers of the call decide: the place of a new peer.
 use Prim.Native.Nat.{ℕ}
-use mathlib.Core.List.{[]}
-use mathlib.Core.Bool.{cond}
-use lib.Dec.{leb, eqb}
-use Rattle.peers_slots.specs.Used.{wrongCount}
-use Rattle.peers_find.specs.Find.{Finding}
-use Rattle.peers_add.specs.Add.{Adding, notAdded}
+use mathlib.Core.Path.{_≡_}
+use mathlib.Core.List.{List}
+use lib.ListN.{length, set}
+use Rattle.peers_entry.specs.Peer.{stored}
+use Rattle.peers_entry.specs.declared.Peer.{Peer}
+use Rattle.peers_find.specs.Find.{Finding, lookUp}
+use Rattle.peers_add.specs.Add.{adding, addPeer}
+use Rattle.peers_add.specs.declared.Place.{Place}
 
--- the answer to a peer whose address is not known, and the slot to write, which is beyond the slots where there is none
-unfoldable pub newPlace : ℕ → ℕ → Adding × ℕ
-newPlace slots count =
-    cond (wrongCount slots count) (notAdded 8 [], slots)
-    (cond (leb 65535 count) (notAdded 10 [], slots)
-    (cond (leb slots count) (notAdded 9 [], slots)
-    (record { number = 0; id = count; added = 1; slots = [] }, count)))
-
--- the same after the lookup f
-unfoldable pub placeOf : ℕ → ℕ → Finding → Adding × ℕ
-placeOf slots count f =
-    cond (eqb (f .number) 0)
-    (record { number = 0; id = f .id; added = 0; slots = [] }, slots)
-    (newPlace slots count)
+-- a place that is right for every so many slots, and for every peer that the lookup answers f for: with the peer stored there, the
+-- answer is what `addPeer` says; nothing is stored where the place is beyond the slots
+abbrev pub Placed : ℕ → ℕ → Finding → Place → Type 0
+Placed slots count f r = (l : List Peer) (p : Peer) → length l ≡ slots → f ≡ lookUp l count p
+    → adding (r .answer) (set l (r .at) (stored p)) ≡ addPeer l count p

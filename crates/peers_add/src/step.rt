@@ -1,10 +1,8 @@
 // What the function over slots asks, by value.
 ghost use mathlib.Core.Path.{_≡_};
-ghost use mathlib.Core.List.{[]};
-ghost use Rattle.answer.specs.Refusal.{numberOf};
-ghost use Rattle.peers_find.specs.Find.{finding};
-ghost use Rattle.peers_add.specs.Add.{adding, notAdded};
-ghost use Rattle.peers_add.specs.Steps.{newPlace, placeOf};
+ghost use Rattle.peers_find.specs.Find.{finding, lost};
+ghost use Rattle.peers_add.specs.Steps.{Placed};
+ghost use Rattle.peers_add.specs.declared.AddAnswer.the-variants.{Refused};
 use crate::AddAnswer;
 use crate::Place;
 use answer::Refusal;
@@ -12,7 +10,7 @@ use peers_find::FindAnswer;
 
 // Where a new peer goes, after its address was looked up.
 pub(crate) fn place(slots: usize, count: usize, found: FindAnswer) -> Place
-    ensures { λ r. ⌜ (adding (r .answer) [], r .at) ≡ placeOf slots count (finding found) ⌝ }
+    ensures { λ r. ⌜ Placed slots count (finding found) r ⌝ }
 {
     match found {
         FindAnswer::Id(id) => Place {
@@ -25,12 +23,9 @@ pub(crate) fn place(slots: usize, count: usize, found: FindAnswer) -> Place
 
 // Where a peer goes whose address is not known.
 fn place_new(slots: usize, count: usize) -> Place
-    ensures { λ r. ⌜ (adding (r .answer) [], r .at) ≡ newPlace slots count ⌝ }
+    ensures { λ r. ⌜ Placed slots count (lost 8) r ⌝ }
 {
-    if slots < count {
-        return no_place(Refusal::Beyond, slots);
-    }
-    if 65535 < count {
+    if peers_slots::wrong_count(slots, count) {
         return no_place(Refusal::Beyond, slots);
     }
     if count == 65535 {
@@ -48,7 +43,7 @@ fn place_new(slots: usize, count: usize) -> Place
 
 // A refusal, and no place.
 fn no_place(why: Refusal, slots: usize) -> Place
-    ensures { λ r. ⌜ (adding (r .answer) [] ≡ notAdded (numberOf why) []) × (r .at ≡ slots) ⌝ }
+    ensures { λ r. ⌜ r ≡ record { answer = Refused why; at = slots } ⌝ }
 {
     Place {
         answer: AddAnswer::Refused(why),

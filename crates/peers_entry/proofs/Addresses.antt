@@ -14,7 +14,7 @@ use Rattle.octets.specs.Octets.{beAt, bytesOf, patch, part, Octets}
 use Rattle.octets.proofs.Numbers.{be-halves, be-one, be-same, bytes-of-be}
 use Rattle.octets.proofs.Stores.{patch-front, stores}
 use Rattle.octets.proofs.Parts.{be-front, drop-replicate}
-use Rattle.peers_entry.specs.Peer.{addressSize, octetsAt, addressAt, sameOctets}
+use Rattle.peers_entry.specs.Peer.{addressSize, octetsAt, addressAt, sameOctets, lowFirst}
 use Rattle.peers_entry.proofs.Sizes.{address-either, address-le}
 
 pub length-octets : (s : List ℕ) (at n : ℕ) → length (octetsAt s at n) ≡ n
@@ -53,16 +53,19 @@ four-stored s l to at {t} {v} o k e f =
     f ∙ ap (patch s to) (ap (bytesOf 4) (e ∙ b) ∙ bytes-of-be l at 4 o k ∙ sym (octets-part l at 4 k))
 
 -- s has n octets of an address at to, and then the m after them
-stored-join : (s l : List ℕ) (to at n m : ℕ) {t u : List ℕ} → t ≡ patch s to (octetsAt l at n) → u ≡ patch t (to + n) (octetsAt l (at + n) m)
+stored-join : (s l : List ℕ) (to at n m : ℕ) {t u : List ℕ} → t ≡ patch s to (octetsAt l at n)
+    → u ≡ patch t (to + n) (octetsAt l (at + n) m)
     → u ≡ patch s to (octetsAt l at (n + m))
 stored-join s l to at n m e f = stores s to n (octetsAt l at n) (octetsAt l (at + n) m) (length-octets l at n) e f
     ∙ ap (patch s to) (octets-join l at n m)
 
-module _ (s l : List ℕ) (to at kind : ℕ) {w : ℕ} {t : List ℕ} (sized : w ≡ addressSize kind) (first : t ≡ patch s to (octetsAt l at 4)) where
+module _ (s l : List ℕ) (to at kind : ℕ) {w : ℕ} {t : List ℕ} (sized : w ≡ addressSize kind)
+    (first : t ≡ patch s to (octetsAt l at 4)) where
   pub short-stored : w ≡ 4 → t ≡ patch s to (octetsAt l at (addressSize kind))
   short-stored e = first ∙ ap (λ (n : ℕ). patch s to (octetsAt l at n)) (sym e ∙ sized)
 
-  pub long-stored : {u v x : List ℕ} → (w ≡ 4 → ⊥) → u ≡ patch t (to + 4) (octetsAt l (at + 4) 4) → v ≡ patch u (to + 8) (octetsAt l (at + 8) 4)
+  pub long-stored : {u v x : List ℕ} → (w ≡ 4 → ⊥) → u ≡ patch t (to + 4) (octetsAt l (at + 4) 4)
+      → v ≡ patch u (to + 8) (octetsAt l (at + 8) 4)
       → x ≡ patch v (to + 12) (octetsAt l (at + 12) 4) → x ≡ patch s to (octetsAt l at (addressSize kind))
   long-stored e f g h =
       let k : addressSize kind ≡ 16 = address-either kind (λ z. e (sized ∙ z)) in
@@ -78,16 +81,16 @@ address-read s at kind e =
     let x : List ℕ = octetsAt s at n in
     let l : length x ≡ n = length-octets s at n in
     let h : length x ≤ 16 = (let k : n ≤ 16 = address-le kind in omega arith) in
-    e ∙ patch-front (replicate 16 0) x h ∙ ap (λ (r : List ℕ). x ++ r) (drop-replicate (length x) 16 0 ∙ ap (λ (k : ℕ). replicate (16 - k) 0) l)
+    e ∙ patch-front (replicate 16 0) x h
+    ∙ ap (λ (r : List ℕ). x ++ r) (drop-replicate (length x) 16 0 ∙ ap (λ (k : ℕ). replicate (16 - k) 0) l)
 
 -- ---- comparing: four octets as one number
--- the first octet lowest
-abbrev low : List ℕ → ℕ → ℕ
-low s at = getD s at 0 + 256 * (getD s (at + 1) 0 + 256 * (getD s (at + 2) 0 + 256 * getD s (at + 3) 0))
-
 -- the first octet highest
 high : (s : List ℕ) (at : ℕ) → ((getD s at 0 * 256 + getD s (at + 1) 0) * 256 + getD s (at + 2) 0) * 256 + getD s (at + 3) 0 ≡ beAt s at 4
-high s at = be-halves s at 3 1 (be-halves s at 2 1 (be-halves s at 1 1 (be-one s at) (be-one s (at + 1))) (be-one s (at + 2))) (be-one s (at + 3))
+high s at =
+    let two = be-halves s at 1 1 (be-one s at) (be-one s (at + 1)) in
+    let three = be-halves s at 2 1 two (be-one s (at + 2)) in
+    be-halves s at 3 1 three (be-one s (at + 3))
 
 -- the lowest octet of a number, and the others
 digit : (x y m n : ℕ) → x < 256 → y < 256 → x + 256 * m ≡ y + 256 * n → (x ≡ y) × (m ≡ n)
@@ -101,7 +104,7 @@ module _ (a b : List ℕ) (o : Octets a) (p : Octets b) (at : ℕ) where
     third : getD a (at + 2) 0 ≡ getD b (at + 2) 0
     fourth : getD a (at + 3) 0 ≡ getD b (at + 3) 0
 
-  by-low : low a at ≡ low b at → Fours
+  by-low : lowFirst a at ≡ lowFirst b at → Fours
   by-low q =
       let i = digit (getD a at 0) (getD b at 0) _ _ (o at) (p at) q in
       let j = digit (getD a (at + 1) 0) (getD b (at + 1) 0) _ _ (o (at + 1)) (p (at + 1)) (i .1) in
@@ -120,7 +123,7 @@ module _ (a b : List ℕ) (o : Octets a) (p : Octets b) (at : ℕ) where
       record { first = k .1; second = k .0; third = j .0; fourth = i .0 }
 
   -- both orders tell the same octets apart
-  pub four-same : {x y : ℕ} → x ≡ low a at → y ≡ low b at → eqb x y ≡ eqb (beAt a at 4) (beAt b at 4)
+  pub four-same : {x y : ℕ} → x ≡ lowFirst a at → y ≡ lowFirst b at → eqb x y ≡ eqb (beAt a at 4) (beAt b at 4)
   four-same {x} {y} e f = by-test (eqb x y) refl
     where
       equal : x ≡ y → beAt a at 4 ≡ beAt b at 4

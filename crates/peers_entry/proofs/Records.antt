@@ -12,7 +12,8 @@ use Rattle.octets.specs.Octets.{beAt, bytesOf, patch, part}
 use Rattle.octets.proofs.Numbers.{be-halves, bytes-halves, length-bytes}
 use Rattle.octets.proofs.Stores.{patch-over, stores}
 use Rattle.octets.proofs.Parts.{be-front}
-use Rattle.peers_entry.specs.Peer.{wide, addressSize, asSize, peerSize, octetsAt, addressAt, peerAt, unread, readPeer, stored, keyOf, sameOctets}
+use Rattle.peers_entry.specs.Peer.{wide, addressSize, asSize, peerSize, octetsAt, addressAt, peerAt, unread, readPeer}
+use Rattle.peers_entry.specs.Peer.{stored, keyOf, sameOctets}
 use Rattle.peers_entry.specs.Peer.{sameAddress, peerOctets, putPeer}
 use Rattle.peers_entry.specs.declared.Peer.{Peer}
 use Rattle.peers_entry.proofs.Sizes.{as-either}
@@ -124,7 +125,8 @@ module _ (s : List ℕ) (at : ℕ) (p : Peer) where
 
     pub put-whole : {a : ℕ} {t u v w : List ℕ} → z ≤ length s → at ≤ length s - z → a ≡ addressSize (p .kind) → t ≡ patch s at (p .kind
         ∷ []) → u ≡ patch t (at + 1) (bytesOf 4 (p .id))
-        → v ≡ patch u (at + 5) (octetsAt (p .addr) 0 (addressSize (p .kind))) → w ≡ patch v (at + 5 + a) (bytesOf (asSize (p .kind)) (p .asn))
+        → v ≡ patch u (at + 5) (octetsAt (p .addr) 0 (addressSize (p .kind)))
+        → w ≡ patch v (at + 5 + a) (bytesOf (asSize (p .kind)) (p .asn))
         → (w, at + z) ≡ putPeer s at p
     unfolding putPeer peerOctets
     put-whole {a} {t} {u} {v} {w} h k ha ht hu hv hw =

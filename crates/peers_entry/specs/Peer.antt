@@ -1,6 +1,6 @@
 -- One peer of a PEER_INDEX_TABLE (RFC 6396, 4.3.1; 01, Peer table): Peer Type 1, Peer BGP ID 4, Peer IP Address 4 or 16,
 -- Peer AS 2 or 4. Of the type, value 1 means an IPv6 address and value 2 an AS of four octets; other bits are kept.
-use Prim.Native.Nat.{ℕ, zero, suc, _+_, _-_, _/_, _%_}
+use Prim.Native.Nat.{ℕ, zero, suc, _+_, _-_, _*_, _/_, _%_}
 use mathlib.Core.List.{List, [], _∷_, _++_}
 use mathlib.Core.Bool.{Bool, true, cond, not, _&&_}
 use lib.ListN.{length, getD, replicate}
@@ -83,6 +83,10 @@ keyOf v6 addr = record { kind = cond v6 1 0; id = 0; addr = addr; asn = 0 }
 unfoldable pub sameOctets : ℕ → List ℕ → List ℕ → Bool
 sameOctets zero a b = true
 sameOctets (suc n) a b = sameOctets n a b && eqb (getD a n 0) (getD b n 0)
+
+-- four octets as one number, the first one lowest
+abbrev pub lowFirst : List ℕ → ℕ → ℕ
+lowFirst s at = getD s at 0 + 256 * (getD s (at + 1) 0 + 256 * (getD s (at + 2) 0 + 256 * getD s (at + 3) 0))
 
 -- two peers have the same address: one family, and the octets that the family has
 unfoldable pub sameAddress : Peer → Peer → Bool

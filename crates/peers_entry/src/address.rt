@@ -1,10 +1,10 @@
 // Addresses: sixteen octets, of which an address of four octets has the first four.
 ghost use mathlib.Core.Path.{_≡_};
-ghost use Prim.Native.Nat.{_≤_, _+_, _*_};
-ghost use lib.ListN.{length, getD};
+ghost use Prim.Native.Nat.{_≤_, _+_};
+ghost use lib.ListN.{length};
 ghost use lib.Dec.{eqb};
 ghost use Rattle.octets.specs.Octets.{beAt, patch};
-ghost use Rattle.peers_entry.specs.Peer.{addressAt, addressSize, keyOf, octetsAt, sameAddress, sameOctets, stored};
+ghost use Rattle.peers_entry.specs.Peer.{addressAt, addressSize, keyOf, lowFirst, octetsAt, sameAddress, sameOctets, stored};
 use crate::Peer;
 use crate::kind::address_size;
 
@@ -79,7 +79,7 @@ pub fn stored_peer(p: Peer) -> Peer
 // Four octets as one number, the first octet lowest: so they are one load, and nothing is turned.
 fn low_first(s: &[u8], at: usize) -> u32
     requires { ⌜ at + 4 ≤ length (now s) ⌝ }
-    ensures { λ r. ⌜ r ≡ getD (now (s .entry)) at 0 + 256 * (getD (now (s .entry)) (at + 1) 0 + 256 * (getD (now (s .entry)) (at + 2) 0 + 256 * getD (now (s .entry)) (at + 3) 0)) ⌝ }
+    ensures { λ r. ⌜ r ≡ lowFirst (now (s .entry)) at ⌝ }
 {
     let a = octets::octet(s, at) as u32;
     let b = octets::octet(s, at + 1) as u32;

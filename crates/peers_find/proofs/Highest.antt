@@ -145,6 +145,12 @@ module _ (l : List Peer) (count : ℕ) where
           exactly-found (record { slots-enough = h; count-small = k; in-use = u; holds = t; none-later = g })
       by-sought h k f (nowhere g) = exactly-none (λ u v. g)
 
+  -- a count under which an address is found is right
+  pub found-right : (key : Peer) (id : ℕ) → lookUp l count key ≡ found id → wrongCount (length l) count ≡ false
+  found-right key id e =
+      let h = look-up-highest key .found-highest id .0 e in
+      right (length l) count (h .slots-enough) (h .count-small)
+
   -- THEOREM. The same by family and octets, with what it is to hold the address set out: the family is the asked one, and so are
   -- the 16 or 4 octets that it has.
   pub find-peer-highest : (v6 : Bool) (addr : List ℕ)

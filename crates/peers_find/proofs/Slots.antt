@@ -1,6 +1,6 @@
 -- One turn of a lookup over slots.
-use Prim.Native.Nat.{ℕ, zero, suc, _+_, _-_, _<_, _≤_}
-use mathlib.Core.Path.{_≡_, refl, sym, _∙_, ap, subst}
+use Prim.Native.Nat.{ℕ, suc, _≤_}
+use mathlib.Core.Path.{_≡_, refl, sym, _∙_, ap}
 use mathlib.Core.List.{List}
 use mathlib.Core.Bool.{Bool, true, false, cond, _&&_}
 use native.Mathlib.Omega.{arith}
@@ -9,7 +9,7 @@ use lib.ListN.{length, getD}
 use lib.Dec.{leb}
 use Rattle.peers_entry.specs.Peer.{nobody, keyOf, sameAddress}
 use Rattle.peers_entry.specs.declared.Peer.{Peer}
-use Rattle.peers_slots.specs.Used.{wrongCount, inUse}
+use Rattle.peers_slots.specs.Used.{inUse}
 use Rattle.peers_slots.proofs.Counts.{used-either}
 use Rattle.peers_find.specs.Find.{Finding, found, lost, highest, lookUp, findPeer}
 use Rattle.peers_find.specs.Steps.{judged}

@@ -1,22 +1,22 @@
 -- A body read into slots: what of it goes there, one turn, and the end.
-use Prim.Native.Nat.{ℕ, zero, suc, _+_, _-_, _<_, _≤_}
+use Prim.Native.Nat.{ℕ, zero, suc, _+_, _<_, _≤_}
 use mathlib.Core.Path.{_≡_, refl, sym, _∙_, ap}
 use mathlib.Core.List.{List}
-use mathlib.Core.Bool.{Bool, true, false}
+use mathlib.Core.Bool.{Bool, true, false, cond}
 use native.Mathlib.Numerals.{add-one}
 use native.Mathlib.Omega.{arith}
 use borrow.Author.Tests.{lt-ltb, le-ltb, ltb-false, eqb-true, eqb-false}
 use lib.ListN.{length, set, getD, length-set}
 use lib.Seq.{getD-set-same, getD-set-other}
-use lib.Dec.{ltb, eqb}
+use lib.Dec.{ltb, leb, eqb}
 use Rattle.answer.specs.Refusal.{numberOf}
 use Rattle.answer.specs.declared.Refusal.{Refusal}
-use Rattle.peers_entry.specs.Peer.{nobody, peerSize, peerAt, Reading, readPeer}
-use Rattle.peers_table.specs.Table.{Heading, heading, refused, endAt, checkPeers}
+use Rattle.peers_entry.specs.Peer.{nobody, peerAt, Reading, readPeer}
+use Rattle.peers_table.specs.Table.{Heading, heading, refused, endAt, lastEnd, checkPeers}
 use Rattle.peers_entry.specs.declared.Peer.{Peer}
 use Rattle.peers_table.specs.declared.TableAnswer.{TableAnswer}
 use Rattle.peers_table.specs.declared.TableAnswer.the-variants as B
-use Rattle.peers_table.proofs.Tables.{end-none, end-more, held-within}
+use Rattle.peers_table.proofs.Tables.{end-more, held-within}
 use Rattle.peers_entry.proofs.Records.{read-fits}
 use Rattle.peers_entry.proofs.Stored.{stored-read}
 use Rattle.peers_slots.proofs.AsStored.{AsStored}
@@ -24,22 +24,30 @@ use Rattle.peers_read.specs.Load.{filled, headFor, loadPeers, loading}
 
 -- ---- the head for so many slots
 module _ (s : List ℕ) (slots : ℕ) where
-  pub head-le : headFor s slots .count ≤ slots
-  unfolding headFor
-  head-le = case (ltb slots (checkPeers s .count)) refl
+  -- a body that is refused has no peers, so the slots alone decide
+  head-by-slots : headFor s slots ≡ cond (ltb slots (checkPeers s .count)) (refused 9) (checkPeers s)
+  unfolding headFor checkPeers
+  head-by-slots = by-body (leb (lastEnd s) (length s)) refl
     where
-      case : (t : Bool) → ltb slots (checkPeers s .count) ≡ t → headFor s slots .count ≤ slots
-      case true e = simp e (omega arith)
-      case false e = simp e (ltb-false slots (checkPeers s .count) e)
+      by-body : (t : Bool) → leb (lastEnd s) (length s) ≡ t
+          → headFor s slots ≡ cond (ltb slots (checkPeers s .count)) (refused 9) (checkPeers s)
+      by-body true e = simp e
+      by-body false e = let z : 0 ≤ slots = omega arith in simp (e, le-ltb slots 0 z)
+
+  pub head-le : headFor s slots .count ≤ slots
+  head-le = rw head-by-slots (case (ltb slots (checkPeers s .count)) refl)
+    where
+      case : (t : Bool) → ltb slots (checkPeers s .count) ≡ t → cond t (refused 9) (checkPeers s) .count ≤ slots
+      case true e = omega arith
+      case false e = ltb-false slots (checkPeers s .count) e
 
   pub head-within : (i : ℕ) → i < headFor s slots .count → endAt s (headFor s slots .first) (i + 1) ≤ length s
-  unfolding headFor
-  head-within i = case (ltb slots (checkPeers s .count)) refl
+  head-within i = rw head-by-slots (case (ltb slots (checkPeers s .count)))
     where
-      case : (t : Bool) → ltb slots (checkPeers s .count) ≡ t → i < headFor s slots .count
-          → endAt s (headFor s slots .first) (i + 1) ≤ length s
-      case true e = simp e (λ h. absurd (omega arith))
-      case false e = simp e (held-within s i)
+      case : (t : Bool) → i < cond t (refused 9) (checkPeers s) .count
+          → endAt s (cond t (refused 9) (checkPeers s) .first) (i + 1) ≤ length s
+      case true = λ h. absurd (omega arith)
+      case false = held-within s i
 
 -- ---- what of a body goes into slots
 abbrev Planned : List ℕ → ℕ → Heading → Type 0
@@ -50,16 +58,13 @@ module _ (s : List ℕ) (slots : ℕ) where
   planned e = (e, ap (λ (h : Heading). h .count) e, ap (λ (h : Heading). h .first) e)
 
   head-refused : (n : ℕ) → checkPeers s ≡ refused n → refused n ≡ headFor s slots
-  unfolding headFor
-  head-refused n h = let z : 0 ≤ slots = omega arith in rw h (simp (le-ltb slots 0 z))
+  head-refused n h = let z : 0 ≤ slots = omega arith in rw (head-by-slots s slots, h) (simp (le-ltb slots 0 z))
 
   head-few : (h : Heading) → checkPeers s ≡ h → slots < h .count → refused 9 ≡ headFor s slots
-  unfolding headFor
-  head-few h e l = rw e (simp (lt-ltb slots (h .count) l))
+  head-few h e l = rw (head-by-slots s slots, e) (simp (lt-ltb slots (h .count) l))
 
   head-whole : (h : Heading) → checkPeers s ≡ h → h .count ≤ slots → h ≡ headFor s slots
-  unfolding headFor
-  head-whole h e l = rw e (simp (le-ltb slots (h .count) l))
+  head-whole h e l = rw (head-by-slots s slots, e) (simp (le-ltb slots (h .count) l))
 
   module _ (r : TableAnswer) (checked : heading r ≡ checkPeers s) where
     pub plan-refused : (why : Refusal) → r ≡ B.Refused why → Planned s slots (refused (numberOf why))

@@ -23,9 +23,12 @@ unfoldable pub filled : List ℕ → ℕ → List Peer → ℕ → List Peer
 filled s at l zero = l
 filled s at l (suc n) = set (filled s at l n) n (peerAt s (endAt s at n))
 
--- the head of the body s for so many slots: 9 where they are too few
+-- the head of the body s for so many slots: what its check refuses, then 9 where they are too few
 unfoldable pub headFor : List ℕ → ℕ → Heading
-headFor s slots = cond (ltb slots (checkPeers s .count)) (refused 9) (checkPeers s)
+headFor s slots =
+    cond (ltb 0 (checkPeers s .number)) (checkPeers s)
+    (cond (ltb slots (checkPeers s .count)) (refused 9)
+    (checkPeers s))
 
 -- the body s in the slots l; a refusal has no peers, so it fills none
 unfoldable pub loadPeers : List ℕ → List Peer → Loading

@@ -9,7 +9,8 @@ use peers_table::TableAnswer;
 
 // The check of a body, and what of it goes into slots.
 fn plan_load(body: &[u8], slots: usize) -> Plan
-    ensures { λ r. ⌜ (heading (r .answer) ≡ headFor (now (body .entry)) slots) × (r .count ≡ headFor (now (body .entry)) slots .count) × (r .first ≡ headFor (now (body .entry)) slots .first) ⌝ }
+    ensures { λ r. ⌜ (heading (r .answer) ≡ headFor (now (body .entry)) slots)
+        × (r .count ≡ headFor (now (body .entry)) slots .count) × (r .first ≡ headFor (now (body .entry)) slots .first) ⌝ }
 {
     let answer = peers_table::check_peers(body);
     match answer {

@@ -1,7 +1,7 @@
 -- The count, right or wrong, and how many slots are in use.
 use Prim.Native.Nat.{ℕ, _<_, _≤_}
-use mathlib.Core.Path.{_≡_, refl, sym}
-use mathlib.Core.Bool.{Bool, true, false}
+use mathlib.Core.Path.{_≡_, refl, sym, _∙_}
+use mathlib.Core.Bool.{Bool, true, false, true≢false}
 use native.Mathlib.Omega.{arith}
 use borrow.Author.Tests.{lt-ltb, le-ltb, ltb-true, ltb-false}
 use lib.Dec.{ltb}
@@ -12,13 +12,12 @@ module _ (slots count : ℕ) where
   unfolding wrongCount
   wrong-slots h = simp (lt-ltb _ _ h)
 
-  pub wrong-large : count ≤ slots → 65535 < count → wrongCount slots count ≡ true
+  pub by-large : count ≤ slots → wrongCount slots count ≡ ltb 65535 count
   unfolding wrongCount
-  wrong-large h k = simp (le-ltb _ _ h, lt-ltb _ _ k)
+  by-large h = simp (le-ltb _ _ h)
 
   pub right : count ≤ slots → count ≤ 65535 → wrongCount slots count ≡ false
-  unfolding wrongCount
-  right h k = simp (le-ltb _ _ h, le-ltb _ _ k)
+  right h k = by-large h ∙ le-ltb _ _ k
 
   pub unused : wrongCount slots count ≡ true → 0 ≡ inUse slots count
   unfolding inUse
@@ -37,14 +36,17 @@ module _ (slots count : ℕ) where
       wrong : wrongCount slots count ≡ true → P
       wrong w = f w (sym (unused slots count w))
 
-      by-large : count ≤ slots → (t : Bool) → ltb 65535 count ≡ t → P
-      by-large h true e = wrong (wrong-large slots count h (ltb-true _ _ e))
-      by-large h false e = let w : wrongCount slots count ≡ false = right slots count h (ltb-false _ _ e) in
+      enough : count ≤ slots → (t : Bool) → ltb 65535 count ≡ t → P
+      enough h true e = wrong (by-large slots count h ∙ e)
+      enough h false e = let w : wrongCount slots count ≡ false = by-large slots count h ∙ e in
           g w (sym (all-used slots count w)) h (ltb-false _ _ e)
 
       by-slots : (t : Bool) → ltb slots count ≡ t → P
       by-slots true e = wrong (wrong-slots slots count (ltb-true _ _ e))
-      by-slots false e = by-large (ltb-false _ _ e) (ltb 65535 count) refl
+      by-slots false e = enough (ltb-false _ _ e) (ltb 65535 count) refl
+
+  pub is-right : wrongCount slots count ≡ false → (count ≤ slots) × (count ≤ 65535)
+  is-right r = used-either (λ w z. absurd (true≢false (sym w ∙ r))) (λ w z h k. (h, k))
 
   pub used-le : {m : ℕ} → m ≡ inUse slots count → m ≤ slots
   used-le e = used-either (λ w z. omega arith) (λ w z h k. omega arith)

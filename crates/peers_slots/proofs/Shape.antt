@@ -1,7 +1,7 @@
 -- What the walks by hand say of a peer record in memory: its machine values, its size, and the types of the locals that hold slots.
 use Prim.Native.Nat.{ℕ}
 use mathlib.Core.List.{List}
-use mir.Syntax.{Ty, Lifetime, named, imm, mut, w8, w64, tyInt, tyRef}
+use mir.Syntax.{Ty, named, imm, mut, w8, w64, tyInt, tyRef}
 use mir.Val.{Val}
 use denote.Memory.{pointee}
 use denote.Slice.{sliceTy}

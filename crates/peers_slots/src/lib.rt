@@ -2,3 +2,4 @@
 mod used;
 
 pub use used::in_use;
+pub use used::wrong_count;

@@ -11,7 +11,7 @@ use lib.Dec.{leb}
 use lib.ListN.{length, getD}
 use Rattle.octets.specs.Octets.{beAt}
 use Rattle.peers_entry.specs.Peer.{peerSize}
-use Rattle.peers_table.specs.Table.{Heading, refused, endAt, nameLength, peerCount, firstPeer, lastEnd, checkPeers}
+use Rattle.peers_table.specs.Table.{refused, endAt, nameLength, peerCount, firstPeer, lastEnd, checkPeers}
 
 -- ---- where peers end
 module _ (s : List ℕ) (at : ℕ) where

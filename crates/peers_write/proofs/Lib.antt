@@ -1,4 +1,4 @@
--- Steps: what the helpers decide, case by case. Writes: slots written. Again: a slice lent again.
-pub mod Steps
+-- Writes: slots written. Steps: what the helpers decide, case by case. Again: a slice lent again.
 pub mod Writes
+pub mod Steps
 pub mod Again

@@ -1,40 +1,46 @@
 -- What the helpers decide, case by case.
 use Prim.Native.Nat.{ℕ, _+_, _-_, _/_, _%_, _<_, _≤_}
-use mathlib.Core.Path.{_≡_, refl, _∙_}
+use mathlib.Core.Path.{_≡_, refl, sym, _∙_, ap}
 use mathlib.Core.List.{List, [], _∷_, _++_}
-use mathlib.Core.Bool.{Bool, true, false, cond}
+use mathlib.Core.Bool.{Bool, true, false}
 use native.Mathlib.Nat.{zero-add}
 use native.Mathlib.Omega.{arith}
-use borrow.Author.Tests.{lt-ltb, le-ltb, le-leb, lt-leb, eqb-true, eqb-false}
+use borrow.Author.Tests.{lt-ltb, le-ltb, lt-leb, eqb-true, eqb-false}
 use lib.Dec.{eqb}
 use lib.ListN.{length, getD, length-append}
 use Rattle.answer.specs.Refusal.{numberOf}
-use Rattle.answer.specs.Writing.{refuse}
+use Rattle.answer.specs.Writing.{refuse, atFront}
 use Rattle.answer.specs.declared.Refusal.{Refusal}
+use Rattle.answer.specs.declared.Refusal.the-variants.{Beyond, TooLarge, NoRoom}
 use Rattle.answer.specs.declared.Written.the-variants as W
 use Rattle.octets.specs.Octets.{bytesOf, patch}
 use Rattle.octets.proofs.Numbers.{length-bytes}
 use Rattle.octets.proofs.Stores.{stores}
 use Rattle.peers_entry.specs.Peer.{wide, addressSize, asSize, peerSize, unfit}
 use Rattle.peers_entry.specs.declared.Peer.{Peer}
-use Rattle.peers_slots.specs.Used.{wrongCount}
-use Rattle.peers_write.specs.Write.{headOctets}
-use Rattle.peers_write.specs.Steps.{lessPeer, Starting, starting, startWrite}
+use Rattle.peers_slots.specs.Used.{wrongCount, inUse}
+use Rattle.peers_slots.proofs.Counts.{all-used, is-right}
+use Rattle.peers_write.specs.Write.{headOctets, peersOctets, anyUnfit, tableOctets, writePeers}
+use Rattle.peers_write.specs.Steps.{sizes, leaves, lessPeer, Starts}
 use Rattle.peers_write.specs.declared.Left.{Left}
 use Rattle.peers_write.specs.declared.Survey.{Survey}
 use Rattle.peers_write.specs.declared.Start.{Start}
+use Rattle.peers_write.proofs.Writes.{length-table, whole}
 
 -- ---- a survey and what it takes
 pub survey-is : {m n : ℕ} (left : Left) → m ≡ n → _≡_ {A = Survey} (record { left = left; count = m }) (record { left = left; count = n })
 survey-is left e = rw e
 
 -- the sizes by the low two bits of the type
-pub size-row : (kind : ℕ) → getD (11 ∷ 23 ∷ 13 ∷ 25 ∷ []) (kind % 4) 0 ≡ peerSize kind
+abbrev sizes-row : List ℕ
+sizes-row = 11 ∷ 23 ∷ 13 ∷ 25 ∷ []
+
+pub size-row : (kind : ℕ) → getD sizes-row (kind % 4) 0 ≡ peerSize kind
 unfolding peerSize addressSize asSize wide
 size-row kind = by-tests (eqb (kind % 2) 1) (eqb (kind / 2 % 2) 1) refl refl
   where
     by-tests : (t u : Bool) → eqb (kind % 2) 1 ≡ t → eqb (kind / 2 % 2) 1 ≡ u
-        → getD (11 ∷ 23 ∷ 13 ∷ 25 ∷ []) (kind % 4) 0 ≡ 5 + cond (eqb (kind % 2) 1) 16 4 + cond (eqb (kind / 2 % 2) 1) 4 2
+        → getD sizes-row (kind % 4) 0 ≡ peerSize kind
     by-tests true true p q =
         let h : kind % 2 ≡ 1 = eqb-true _ _ p in
         let w : kind / 2 % 2 ≡ 1 = eqb-true _ _ q in
@@ -65,53 +71,79 @@ module _ (left : Left) (p : Peer) {octets : ℕ} (less : octets ≡ left .octets
   unfolding lessPeer
   less-fit u t = rw (less, u, t)
 
--- ---- the head of a body
+-- ---- the start of a body
 module _ (s : List ℕ) (collector : ℕ) (view : List ℕ) (slots count : ℕ) (left : Left) where
-  abbrev Not : ℕ → Starting
-  Not n = record { count = 0; at = 0; done = refuse n s }
+  -- what leaves so much of the room
+  abbrev Leaving : List Peer → Type 0
+  Leaving l = left ≡ leaves l (inUse slots count) (length s)
 
-  pub start-wrong : wrongCount slots count ≡ true → Not 8 ≡ startWrite s collector view slots count left
-  unfolding startWrite
-  start-wrong w = simp w
+  -- a refusal that `writePeers` gives too
+  stopped : (g : Start) (why : Refusal) → g ≡ record { answer = W.Refused why; count = 0; at = 0 }
+      → ((l : List Peer) → length l ≡ slots → Leaving l → refuse (numberOf why) s ≡ writePeers s collector view l count)
+      → Starts s collector view slots count left g s
+  unfolding sizes peersOctets patch
+  stopped g why e h l k rest = rw e (record { held = omega arith; room = omega arith; answers = h l k rest })
+
+  pub start-wrong : (g : Start) → g ≡ record { answer = W.Refused Beyond; count = 0; at = 0 } → wrongCount slots count ≡ true
+      → Starts s collector view slots count left g s
+  unfolding writePeers
+  start-wrong g e w = stopped g Beyond e (λ l k rest. rw k (simp w))
 
   module _ (w : wrongCount slots count ≡ false) where
-    pub start-name : 65535 < length view → Not 10 ≡ startWrite s collector view slots count left
-    unfolding startWrite
-    start-name h = simp (w, lt-ltb _ _ h)
+    pub start-name : (g : Start) → g ≡ record { answer = W.Refused TooLarge; count = 0; at = 0 } → 65535 < length view
+        → Starts s collector view slots count left g s
+    unfolding writePeers
+    start-name g e h = stopped g TooLarge e (λ l k rest. rw k (simp (w, lt-ltb _ _ h)))
+
+    -- all peers are measured
+    measured : (l : List Peer) → Leaving l → left ≡ leaves l count (length s)
+    measured l rest = rest ∙ ap (λ (n : ℕ). leaves l n (length s)) (sym (all-used slots count w))
+
+    rest-octets : (l : List Peer) → Leaving l → left .octets ≡ length s - sizes l count
+    unfolding leaves
+    rest-octets l rest = ap (λ (x : Left). x .octets) (measured l rest)
+
+    rest-unfit : (l : List Peer) → Leaving l → anyUnfit l count ≡ left .unfit
+    unfolding leaves
+    rest-unfit l rest = ap (λ (x : Left). x .unfit) (sym (measured l rest))
 
     module _ (n : length view ≤ 65535) where
-      pub start-unfit : left .unfit ≡ true → Not 10 ≡ startWrite s collector view slots count left
-      unfolding startWrite
-      start-unfit u = simp (w, le-ltb _ _ n, u)
+      pub start-unfit : (g : Start) → g ≡ record { answer = W.Refused TooLarge; count = 0; at = 0 } → left .unfit ≡ true
+          → Starts s collector view slots count left g s
+      unfolding writePeers
+      start-unfit g e u = stopped g TooLarge e (λ l k rest. rw k (simp (w, le-ltb _ _ n, rest-unfit l rest ∙ u)))
 
       module _ (u : left .unfit ≡ false) where
-        pub start-small : left .octets < 8 + length view → Not 9 ≡ startWrite s collector view slots count left
-        unfolding startWrite
-        start-small h = simp (w, le-ltb _ _ n, u, lt-leb _ _ h)
+        -- all fits its fields, so the room decides
+        fits : (l : List Peer) → length l ≡ slots → Leaving l
+            → atFront s (tableOctets collector view l count) ≡ writePeers s collector view l count
+        unfolding writePeers
+        fits l k rest = rw k (simp (w, le-ltb _ _ n, rest-unfit l rest ∙ u))
 
-        pub start-false : 8 + length view ≤ left .octets → length s < left .octets → Not 9 ≡ startWrite s collector view slots count left
-        unfolding startWrite
-        start-false h k = simp (w, le-ltb _ _ n, u, le-leb _ _ h, lt-leb _ _ k)
+        pub start-small : (g : Start) → g ≡ record { answer = W.Refused NoRoom; count = 0; at = 0 } → left .octets < 8 + length view
+            → Starts s collector view slots count left g s
+        unfolding atFront
+        start-small g e h = stopped g NoRoom e (λ l k rest.
+            let m : length s < length (tableOctets collector view l count) =
+            omega (arith, length-table s collector view l count, rest-octets l rest) in
+            simp (lt-leb _ _ m) at (fits l k rest))
 
-        pub start-whole : {t : List ℕ} → 8 + length view ≤ left .octets → left .octets ≤ length s
-            → t ≡ patch s 0 (headOctets collector view count)
-            → record {
-              count = count;
-              at = 8 + length view;
-              done = record {
-                number = 0;
-                octets = length s - left .octets +
-                    (8 + length view);
-                output = t;
-              };
-            } ≡ startWrite s collector view slots count left
-        unfolding startWrite
-        start-whole h k e = rw e (simp (w, le-ltb _ _ n, u, le-leb _ _ h, le-leb _ _ k))
+        pub start-never : (g : Start) → g ≡ record { answer = W.Refused NoRoom; count = 0; at = 0 } → length s < left .octets
+            → Starts s collector view slots count left g s
+        start-never g e h = stopped g NoRoom e (λ l k rest. absurd (omega (arith, rest-octets l rest)))
 
--- a refusal, set out with the output
-pub not-start : {r : Start} (why : Refusal) (t : List ℕ) → r ≡ record { answer = W.Refused why; count = 0; at = 0 }
-    → starting r t ≡ record { count = 0; at = 0; done = refuse (numberOf why) t }
-not-start why t e = rw e
+        pub start-whole : {t : List ℕ} → 8 + length view ≤ left .octets → t ≡ patch s 0 (headOctets collector view count)
+            → Starts s collector view slots count left
+            (record { answer = W.Octets (length s - left .octets + (8 + length view)); count = count; at = 8 + length view }) t
+        start-whole h e l k rest =
+            let table : length (tableOctets collector view l count) ≡ 8 + length view + sizes l count =
+            length-table s collector view l count in
+            let octets : left .octets ≡ length s - sizes l count = rest-octets l rest in
+            record {
+              held = omega (arith, is-right slots count w);
+              room = omega arith;
+              answers = whole s collector view l count (omega arith) (omega arith) e ∙ fits l k rest;
+            }
 
 -- the head's fields one after the other
 pub head-run : (s : List ℕ) (collector : ℕ) (view : List ℕ) (count : ℕ) {t u v w : List ℕ} → t ≡ patch s 0 (bytesOf 4 collector)

@@ -1,31 +1,24 @@
 -- The slots written as a body: what the peers leave of the room, one turn, and the end.
 use Prim.Native.Nat.{ℕ, zero, suc, _+_, _-_, _<_, _≤_}
-use mathlib.Core.Path.{_≡_, refl, sym, _∙_, ap}
-use mathlib.Core.List.{List, [], _++_}
-use mathlib.Core.Bool.{Bool, true, false, cond, _||_}
+use mathlib.Core.Path.{_≡_, refl, _∙_, ap}
+use mathlib.Core.List.{List, _++_}
+use mathlib.Core.Bool.{false, _||_}
 use native.Mathlib.Nat.{zero-add, suc-add}
 use native.Mathlib.Numerals.{add-one}
 use native.Mathlib.Omega.{arith}
-use borrow.Author.Tests.{lt-ltb, le-ltb, lt-leb, le-leb, leb-true, leb-false, ltb-true, ltb-false}
-use lib.ListN.{length, getD, drop, length-append}
-use lib.Dec.{ltb, leb}
-use Rattle.answer.specs.Writing.{Writing, wrote, refuse, atFront}
-use Rattle.answer.specs.declared.Written.{Written}
-use Rattle.answer.specs.declared.Written.the-variants.{Octets, Refused}
+use borrow.Author.Tests.{le-leb}
+use lib.ListN.{length, getD, length-append}
+use Rattle.answer.specs.Writing.{wrote, atFront}
 use Rattle.octets.specs.Octets.{bytesOf, patch}
 use Rattle.octets.proofs.Numbers.{length-bytes}
 use Rattle.octets.proofs.Stores.{stores, patch-front}
 use Rattle.peers_entry.specs.Peer.{nobody, peerSize, unfit, peerOctets, putPeer}
 use Rattle.peers_entry.specs.declared.Peer.{Peer}
 use Rattle.peers_entry.proofs.Records.{length-peer}
-use Rattle.peers_slots.specs.Used.{wrongCount}
 use Rattle.peers_write.specs.Write.{headOctets, peersOctets, anyUnfit, tableOctets, writePeers}
-use Rattle.peers_slots.specs.Used.{inUse}
-use Rattle.peers_write.specs.Steps.{sizes, leaves, lessPeer, Starting, starting, startWrite}
+use Rattle.peers_write.specs.Steps.{sizes, leaves, lessPeer, Started}
 use Rattle.peers_write.specs.declared.Left.{Left}
 use Rattle.peers_write.specs.declared.Start.{Start}
-use Rattle.peers_write.proofs.Steps.{start-wrong, start-name, start-unfit, start-small, start-whole}
-use Rattle.peers_slots.proofs.Counts.{used-either}
 
 -- ---- what the peers in the first n slots leave of the room
 module _ (l : List Peer) (room : ℕ) where
@@ -115,148 +108,37 @@ length-head collector view count =
     let f : length (four ++ two) ≡ length four + length two = length-append four two in
     omega arith
 
--- ---- a start, and the whole
-module _ (s : List ℕ) (collector : ℕ) (view : List ℕ) (l : List Peer) (count : ℕ) (left : Left) (rest : left ≡ leaves l (inUse
-    (length l) count) (length s)) where
-  abbrev Begun : Starting
-  Begun = startWrite s collector view (length l) count left
-
+-- ---- the whole body
+module _ (s : List ℕ) (collector : ℕ) (view : List ℕ) (l : List Peer) (count : ℕ) where
   abbrev Table : List ℕ
   Table = tableOctets collector view l count
 
-  length-table : length Table ≡ 8 + length view + sizes l count
+  pub length-table : length Table ≡ 8 + length view + sizes l count
   unfolding tableOctets
   length-table =
       let a : length (headOctets collector view count) ≡ 8 + length view = length-head collector view count in
       let b : length (peersOctets l count) ≡ sizes l count = length-peers l count in
       length-append (headOctets collector view count) (peersOctets l count) ∙ omega arith
 
-  rest-octets : inUse (length l) count ≡ count → left .octets ≡ length s - sizes l count
-  unfolding leaves
-  rest-octets z = ap (λ (x : Left). x .octets) rest ∙ rw z
-
-  rest-unfit : inUse (length l) count ≡ count → left .unfit ≡ anyUnfit l count
-  unfolding leaves
-  rest-unfit z = ap (λ (x : Left). x .unfit) rest ∙ rw z
-
-  -- a refusal has the same number in both, and otherwise there is room for all
-  abbrev Whole : Starting
-  Whole = record {
-    count = count;
-    at = 8 + length view;
-    done = record {
-      number = 0;
-      octets = length Table;
-      output = patch s 0
-          (headOctets collector view count);
-    };
-  }
-
-  abbrev Stopped : ℕ → Starting
-  Stopped k = record { count = 0; at = 0; done = refuse k s }
-
-  either : {P : Type 0} → ((k : ℕ) → Stopped k ≡ Begun → refuse k s ≡ writePeers s collector view l count → P) → (Whole ≡ Begun
-      → atFront s Table ≡ writePeers s collector view l count → length Table ≤ length s → count ≤ length l → P) → P
-  unfolding writePeers atFront
-  either {P} stop go = used-either (length l) count (λ w z. stop 8 (start-wrong s collector view (length l) count left w) (simp w))
-      (λ w z x y. by-name w z x (ltb 65535 (length view)) refl)
-    where
-      by-room : wrongCount (length l) count ≡ false → inUse (length l) count ≡ count → count ≤ length l → length view ≤ 65535
-          → anyUnfit l count ≡ false → (t : Bool) → leb (length Table) (length s) ≡ t → P
-      by-room w z h n u true e =
-          let f : length Table ≤ length s = leb-true _ _ e in
-          let a : left .octets ≡ length s - sizes l count = rest-octets z in
-          let b : length Table ≡ 8 + length view + sizes l count = length-table in
-          let c : length s - left .octets + (8 + length view) ≡ length Table = omega arith in
-          go
-          (ap (λ (k : ℕ). record {
-            count = count;
-            at = 8 + length view;
-            done = record {
-              number = 0;
-              octets = k;
-              output = patch s 0
-                  (headOctets collector view count);
-            };
-          }) (sym c)
-          ∙ start-whole s collector view (length l) count left w n (rest-unfit z ∙ u) (omega arith) (omega arith) refl)
-          (simp (w, le-ltb 65535 (length view) n, u)) f h
-      by-room w z h n u false e =
-          let f : length s < length Table = leb-false _ _ e in
-          let a : left .octets ≡ length s - sizes l count = rest-octets z in
-          let b : length Table ≡ 8 + length view + sizes l count = length-table in
-          stop 9 (start-small s collector view (length l) count left w n (rest-unfit z
-          ∙ u) (omega arith)) (simp (w, le-ltb 65535 (length view) n, u, lt-leb (length Table) (length s) f))
-
-      by-unfit : wrongCount (length l) count ≡ false → inUse (length l) count ≡ count → count ≤ length l → length view ≤ 65535 → (t : Bool)
-          → anyUnfit l count ≡ t → P
-      by-unfit w z h n true e = stop 10 (start-unfit s collector view (length l) count left w n (rest-unfit z
-          ∙ e)) (simp (w, le-ltb 65535 (length view) n, e))
-      by-unfit w z h n false e = by-room w z h n e (leb (length Table) (length s)) refl
-
-      by-name : wrongCount (length l) count ≡ false → inUse (length l) count ≡ count → count ≤ length l → (t : Bool)
-          → ltb 65535 (length view) ≡ t → P
-      by-name w z h true e = stop 10 (start-name s collector view (length l) count left w (ltb-true _ _ e)) (simp (w, e))
-      by-name w z h false e = by-unfit w z h (ltb-false _ _ e) (anyUnfit l count) refl
-
-  -- the head and the peers after it are the whole body
-  whole : {u t : List ℕ} {at i : ℕ} → length Table ≤ length s → t ≡ patch s 0 (headOctets collector view count) → at ≡ 8 + length view
-      → i ≡ count → u ≡ patch t at (peersOctets l i)
-      → record { number = 0; octets = length Table; output = u } ≡ atFront s Table
+  -- the head and the peers after it
+  pub whole : {t : List ℕ} {n : ℕ} → length Table ≤ length s → n ≡ length Table → t ≡ patch s 0 (headOctets collector view count)
+      → record { number = 0; octets = n; output = patch t (8 + length view) (peersOctets l count) } ≡ atFront s Table
   unfolding atFront tableOctets
-  whole {u} {t} {at} {i} r ht ha hi hu =
+  whole {t} {n} r hn ht =
       let head : List ℕ = headOctets collector view count in
-      let e : u ≡ patch s 0 Table = stores s 0 (8 + length view) head (peersOctets l count) (length-head collector view count) ht
-      (rw zero-add (hu ∙ rw (ha, hi))) in
-      rw (e, patch-front s Table r) (simp (le-leb (length Table) (length s) r))
+      let e : patch t (8 + length view) (peersOctets l count) ≡ patch s 0 Table =
+      stores s 0 (8 + length view) head (peersOctets l count) (length-head collector view count) ht (rw zero-add) in
+      rw (hn, e, patch-front s Table r) (simp (le-leb (length Table) (length s) r))
 
-  module _ (g : Start) (t : List ℕ) (begun : starting g t ≡ Begun) where
-    -- each peer that is to be written has room
+  -- ---- the loop after the start g, which left the output t
+  module _ (g : Start) (t : List ℕ) (started : Started s collector view l count g t) where
     pub write-room : (i : ℕ) → i < g .count → g .at + sizes l (i + 1) ≤ length s
     write-room i h =
-        either
-        (λ k e f. let z : g .count ≡ 0 = ap (λ (x : Starting). x .count) (begun ∙ sym e) in absurd (omega arith))
-        (λ e f r held.
-        let c : g .count ≡ count = ap (λ (x : Starting). x .count) (begun ∙ sym e) in
-        let a : g .at ≡ 8 + length view = ap (λ (x : Starting). x .at) (begun ∙ sym e) in
-        let m : sizes l (i + 1) ≤ sizes l count = sizes-le l (i + 1) count (omega arith) in
-        omega (arith, length-table))
-
-    -- and stands in a slot
-    pub write-held : g .count ≤ length l
-    write-held =
-        either
-        (λ k e f. let z : g .count ≡ 0 = ap (λ (x : Starting). x .count) (begun ∙ sym e) in omega arith)
-        (λ e f r h. let c : g .count ≡ count = ap (λ (x : Starting). x .count) (begun ∙ sym e) in omega arith)
-
-    -- the answer with other output
-    with-output : (r : Written) (x y : List ℕ) → wrote r y ≡ record { number = wrote r x .number; octets = wrote r x .octets; output = y }
-    with-output (Octets n) x y = refl
-    with-output (Refused why) x y = refl
-
-    output-of : (r : Written) (y : List ℕ) → y ≡ wrote r y .output
-    output-of (Octets n) y = refl
-    output-of (Refused why) y = refl
-
-    as-begun : (x : Starting) (y : List ℕ) → starting g t ≡ x
-        → wrote (g .answer) y ≡ record { number = x .done .number; octets = x .done .octets; output = y }
-    as-begun x y e = with-output (g .answer) t y
-        ∙ ap (λ (z : Starting). record { number = z .done .number; octets = z .done .octets; output = y }) e
-
-    output-is : (x : Starting) → starting g t ≡ x → t ≡ x .done .output
-    output-is x e = output-of (g .answer) t ∙ ap (λ (z : Starting). z .done .output) e
+        let m : sizes l (i + 1) ≤ sizes l (g .count) = sizes-le l (i + 1) (g .count) (omega arith) in
+        omega (arith, started .room)
 
     pub write-is : {i : ℕ} {u : List ℕ} → i ≤ g .count → g .count ≤ i → u ≡ patch t (g .at) (peersOctets l i)
         → wrote (g .answer) u ≡ writePeers s collector view l count
     write-is {i} {u} x y h =
-        either
-        (λ k e f.
-        let z : g .count ≡ 0 = ap (λ (w : Starting). w .count) (begun ∙ sym e) in
-        let j : i ≡ 0 = omega arith in
-        let same : u ≡ s = h ∙ ap (λ (n : ℕ). patch t (g .at) (peersOctets l n)) j ∙ sym (written-none l t (g .at) .0)
-        ∙ output-is (Stopped k) (begun ∙ sym e) in
-        as-begun (Stopped k) u (begun ∙ sym e) ∙ ap (λ (o : List ℕ). record { number = k; octets = 0; output = o }) same ∙ f)
-        (λ e f r held.
-        let c : g .count ≡ count = ap (λ (w : Starting). w .count) (begun ∙ sym e) in
-        let a : g .at ≡ 8 + length view = ap (λ (w : Starting). w .at) (begun ∙ sym e) in
-        as-begun Whole u (begun ∙ sym e) ∙ whole r (output-is Whole (begun ∙ sym e)) a (omega arith) h ∙ f)
+        let j : i ≡ g .count = omega arith in
+        ap (wrote (g .answer)) (h ∙ ap (λ (n : ℕ). patch t (g .at) (peersOctets l n)) j) ∙ started .answers

@@ -8,7 +8,7 @@ ghost use Rattle.octets.specs.Octets.{patch};
 ghost use Rattle.peers_entry.specs.Peer.{peerSize};
 ghost use Rattle.peers_slots.specs.Used.{inUse};
 ghost use Rattle.peers_write.specs.Write.{headOctets};
-ghost use Rattle.peers_write.specs.Steps.{lessPeer, startWrite, starting};
+ghost use Rattle.peers_write.specs.Steps.{Starts, lessPeer};
 use crate::Left;
 use crate::Start;
 use crate::Survey;
@@ -75,15 +75,12 @@ pub(crate) fn write_head(
     count: usize,
     left: Left,
 ) -> Start
-    ensures { λ r. ⌜ starting r (now (out .exit)) ≡ startWrite (now (out .entry)) collector (now (view .entry)) slots count left ⌝ }
+    ensures { λ r. ⌜ Starts (now (out .entry)) collector (now (view .entry)) slots count left r (now (out .exit)) ⌝ }
 {
     let room = out.len();
     let name = view.len();
     let octets = left.octets;
-    if slots < count {
-        return no_start(Refusal::Beyond);
-    }
-    if 65535 < count {
+    if peers_slots::wrong_count(slots, count) {
         return no_start(Refusal::Beyond);
     }
     if 65535 < name {

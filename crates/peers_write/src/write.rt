@@ -34,7 +34,8 @@ pub fn write_peers(
     slots: &[Peer],
     count: usize,
 ) -> Written
-    ensures answer { λ r. ⌜ wrote r (now (out .exit)) ≡ writePeers (now (out .entry)) collector (now (view .entry)) (now (slots .entry)) count ⌝ }
+    ensures answer { λ r. ⌜ wrote r (now (out .exit))
+        ≡ writePeers (now (out .entry)) collector (now (view .entry)) (now (slots .entry)) count ⌝ }
 {
     let left = measure(slots, count, out.len());
     let start = write_head(out, collector, view, slots.len(), count, left);

@@ -1,6 +1,6 @@
 -- What the call answers, one law for each way through it.
-use Prim.Native.Nat.{ℕ, _+_, _/_, _<_, _≤_}
-use mathlib.Core.Path.{_≡_}
+use Prim.Native.Nat.{ℕ, _+_, _<_, _≤_}
+use mathlib.Core.Path.{_≡_, _∙_}
 use mathlib.Core.Bool.{true, false}
 use mathlib.Core.List.{List}
 use native.Mathlib.Omega.{arith}
@@ -29,20 +29,19 @@ module _ (s : List ℕ) (t sequence bits : ℕ) (prefix : List ℕ) where
       unfolding beginRib
       front = rw (f, le-ltb (mostBits t) bits (omega arith))
 
-      pub begin-full : length s < 7 + (bits + 7) / 8 → refuse 9 s ≡ beginRib s t sequence bits prefix
-      unfolding atFront prefixSize
-      begin-full l =
-          let k : length (headOctets sequence bits prefix 0) ≡ 7 + (bits + 7) / 8 = length-head sequence bits prefix 0 in
-          rw (lt-leb (length (headOctets sequence bits prefix 0)) (length s) (omega arith)) at front
+      module _ {n : ℕ} (size : n ≡ prefixSize bits) where
+        taken : length (headOctets sequence bits prefix 0) ≡ 7 + n
+        taken = length-head sequence bits prefix 0 ∙ rw size
 
-      pub begin-done : 7 + (bits + 7) / 8 ≤ length s → {u : List ℕ} → u ≡ patch s 0 (headOctets sequence bits prefix 0)
-          → record { number = 0; octets = 7 + (bits + 7) / 8; output = u } ≡ beginRib s t sequence bits prefix
-      unfolding atFront prefixSize
-      begin-done l e =
-          let k : length (headOctets sequence bits prefix 0) ≡ 7 + (bits + 7) / 8 = length-head sequence bits prefix 0 in
-          rw (
-            e,
-            patch-front s (headOctets sequence bits prefix 0) (omega arith),
-            ← k,
-          )
-          (rw (le-leb (length (headOctets sequence bits prefix 0)) (length s) (omega arith)) at front)
+        pub begin-full : length s < 7 + n → refuse 9 s ≡ beginRib s t sequence bits prefix
+        unfolding atFront
+        begin-full l =
+            rw (lt-leb (length (headOctets sequence bits prefix 0)) (length s) (omega (arith, taken))) at front
+
+        pub begin-done : 7 + n ≤ length s → {u : List ℕ} → u ≡ patch s 0 (headOctets sequence bits prefix 0)
+            → record { number = 0; octets = 7 + n; output = u } ≡ beginRib s t sequence bits prefix
+        unfolding atFront
+        begin-done l e =
+            let fits : length (headOctets sequence bits prefix 0) ≤ length s = omega (arith, taken) in
+            rw (e, patch-front s (headOctets sequence bits prefix 0) fits, ← taken)
+            (rw (le-leb (length (headOctets sequence bits prefix 0)) (length s) fits) at front)

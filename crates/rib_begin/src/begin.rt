@@ -19,7 +19,7 @@ pub fn begin_rib(out: &mut [u8], subtype: u16, sequence: u32, bits: u8, prefix: 
     if l.most < bits {
         return Written::Refused(Refusal::TooLarge);
     }
-    let size = (bits as usize + 7) / 8;
+    let size = rib_head::prefix_size(bits);
     if out.len() < 7 + size {
         return Written::Refused(Refusal::NoRoom);
     }
@@ -32,7 +32,7 @@ fn put_head(out: &mut [u8], sequence: u32, bits: u8, prefix: [u8; 16])
     requires { ⌜ bits ≤ 128 ⌝ }
     ensures { λ _. ⌜ now (out .exit) ≡ patch (now (out .entry)) 0 (headOctets sequence bits prefix 0) ⌝ }
 {
-    let size = (bits as usize + 7) / 8;
+    let size = rib_head::prefix_size(bits);
     let p = rib_head::clear_after(bits, prefix);
     octets::put_be32(out, 0, sequence);
     octets::put_octet(out, 4, bits);

@@ -1,12 +1,14 @@
 -- When a head can be read, one law for each way through the test, and what the check then says.
 use Prim.Native.Nat.{ℕ, _+_, _-_, _<_, _≤_}
 use mathlib.Core.Path.{_≡_, refl, sym, _∙_, ap}
-use mathlib.Core.Bool.{Bool, true, false, _&&_, not, cond}
+use mathlib.Core.Bool.{Bool, true, false, _&&_, and-false, not, cond}
 use mathlib.Core.List.{List}
+use native.Mathlib.Nat.{add-comm}
 use native.Mathlib.Omega.{arith}
 use lib.ListN.{length, getD}
 use lib.Dec.{leb}
-use borrow.Author.Tests.{le-leb, lt-leb, leb-true, leb-false, not-true, not-false}
+use borrow.Author.Tests.{le-leb, lt-leb, leb-true, not-true, not-false}
+use Rattle.octets.proofs.Parts.{room-rest}
 use Rattle.rib_head.specs.Layout.{carried, mostBits, pathSize, prefixSize, layoutOf}
 use Rattle.rib_head.specs.declared.Layout.{Layout}
 use Rattle.rib_head.specs.Head.{bitsOf, entriesAt, readable, checkRib}
@@ -22,12 +24,8 @@ module _ (most : ℕ) (s : List ℕ) {bits : ℕ} (b : bits ≡ getD s 4 0) wher
   pub readable-short : length s < 7 → false ≡ readable most s
   unfolding readable entriesAt
   readable-short h =
-      let l : length s < 7 + prefixSize (bitsOf s) =
-      omega arith in rw (lt-leb (7 + prefixSize (bitsOf s)) (length s) l) (sym (and-false (leb (bitsOf s) most)))
-    where
-      and-false : (t : Bool) → t && false ≡ false
-      and-false true = refl
-      and-false false = refl
+      let l : length s < 7 + prefixSize (bitsOf s) = omega arith in
+      rw (lt-leb (7 + prefixSize (bitsOf s)) (length s) l) (sym (and-false (leb (bitsOf s) most)))
 
   -- the prefix's octets fit in what the other fields leave
   pub readable-rest : bits ≤ most → 7 ≤ length s → {n : ℕ} → n ≡ prefixSize bits → leb n (length s - 7) ≡ readable most s
@@ -35,14 +33,7 @@ module _ (most : ℕ) (s : List ℕ) {bits : ℕ} (b : bits ≡ getD s 4 0) wher
   readable-rest h l {n} e =
       let k : getD s 4 0 ≤ most = omega arith in
       let m : n ≡ prefixSize (getD s 4 0) = e ∙ ap prefixSize b in
-      rw (le-leb (getD s 4 0) most k, m) (by-test (leb (prefixSize (getD s 4 0)) (length s - 7)) refl)
-    where
-      by-test : (t : Bool) → leb (prefixSize (getD s 4 0)) (length s - 7) ≡ t → t ≡ leb (7 + prefixSize (getD s 4 0)) (length s)
-      by-test true e =
-          let f = leb-true (prefixSize (getD s 4 0)) (length s - 7) e in sym (le-leb (7 + prefixSize (getD s 4 0)) (length s) (omega arith))
-      by-test false e =
-          let f =
-          leb-false (prefixSize (getD s 4 0)) (length s - 7) e in sym (lt-leb (7 + prefixSize (getD s 4 0)) (length s) (omega arith))
+      rw (le-leb (getD s 4 0) most k, add-comm 7 (prefixSize (getD s 4 0)), m) (room-rest (length s) (prefixSize (getD s 4 0)) 7 l)
 
 -- whether a subtype is carried, from its layout
 module _ (t : ℕ) {l : Layout} (e : l ≡ layoutOf t) where

@@ -3,7 +3,6 @@ use mathlib.Core.Path.{_≡_, refl, sym, _∙_, ap}
 use lib.ListN.{length}
 use native.Mathlib.Omega.{arith}
 use borrow.Author.Needs.{needs}
-use Rattle.octets.specs.Octets.{patch}
 use Rattle.octets.proofs.Stores.{length-patch}
 use Rattle.octets.proofs.Parts.{patch-lent}
 use Rattle.mrt_lent.specs.Rows.{rowsFrom, rowsOut}
@@ -41,7 +40,8 @@ returns : tie.Need-returns Inv-loop μ-loop
 returns c =
     let at-next = c .before .before in
     let at-loop = at-next .before .before in
-    sym (rows-none (entryAt _ _) 5 _ _ _ _ _ (entry-found _ _ _ (at-next .next-entry .ensures) (c .enum-told .given .1))) ∙ at-loop .loop .inv .4
+    sym (rows-none (entryAt _ _) 5 _ _ _ _ _ (entry-found _ _ _ (at-next .next-entry .ensures) (c .enum-told .given .1)))
+    ∙ at-loop .loop .inv .4
 
 enum-told-2 : tie.Need-enum-told-2 Inv-loop μ-loop
 enum-told-2 c = search needs
@@ -53,7 +53,8 @@ returns-2 : tie.Need-returns-2 Inv-loop μ-loop
 returns-2 c =
     let at-next = c .before .before in
     let at-loop = at-next .before .before in
-    sym (rows-none (entryAt _ _) 5 _ _ _ _ _ (entry-found _ _ _ (at-next .next-entry .ensures) (c .enum-told2 .given .1))) ∙ at-loop .loop .inv .4
+    sym (rows-none (entryAt _ _) 5 _ _ _ _ _ (entry-found _ _ _ (at-next .next-entry .ensures) (c .enum-told2 .given .1)))
+    ∙ at-loop .loop .inv .4
 
 enum-known-entry : tie.Need-enum-known-entry Inv-loop μ-loop
 enum-known-entry c = search needs
@@ -108,8 +109,10 @@ loop-again c =
     let at-test = at-next .before in
     let at-loop = at-test .before in
     let inv = at-loop .loop .inv in
-    let h : at-loop .loop .place + 5 ≤ length (at-loop .loop .out) = omega (arith, at-test .loop-test .taken, inv .0, inv .3) in
-    let stored = patch-lent (at-loop .loop .out) (at-loop .loop .place) (length (at-loop .loop .out)) 5 _ refl (omega arith) h (at-put .put-values .ensures) in (
+    let out = at-loop .loop .out in
+    let place = at-loop .loop .place in
+    let h : place + 5 ≤ length out = omega (arith, at-test .loop-test .taken, inv .0, inv .3) in
+    let stored = patch-lent out place (length out) 5 _ refl (omega arith) h (at-put .put-values .ensures) in (
       omega (arith, at-test .loop-test .taken, inv .0),
       omega (arith, inv .1),
       inv .2,

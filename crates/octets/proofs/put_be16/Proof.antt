@@ -29,7 +29,10 @@ same-length c = search needs
 
 returns-2 : tie.Need-returns-2
 unfolding bytesOf
-returns-2 c = stores _ _ 1 (_ ∷ []) (_ ∷ []) refl (c .before .before .before .before .before .before .put-octet .ensures) (c .before .before .put-octet2 .ensures)
+returns-2 c =
+    let at-low = c .before .before in
+    let at-high = at-low .before .before .before .before in
+    stores _ _ 1 (_ ∷ []) (_ ∷ []) refl (at-high .put-octet .ensures) (at-low .put-octet2 .ensures)
 
 pub put-be16-spec : {M : Type 1} → statement M
 put-be16-spec =

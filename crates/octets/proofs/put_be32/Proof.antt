@@ -28,7 +28,11 @@ same-length : tie.Need-same-length
 same-length c = search needs
 
 returns-2 : tie.Need-returns-2
-returns-2 c = stores _ _ 2 _ _ (length-bytes 2 _) (c .before .before .before .before .before .before .put-be16 .ensures) (c .before .before .put-be162 .ensures) ∙ ap (patch _ _) (bytes-halves 2 2 _)
+returns-2 c =
+    let at-low = c .before .before in
+    let at-high = at-low .before .before .before .before in
+    stores _ _ 2 _ _ (length-bytes 2 _) (at-high .put-be16 .ensures) (at-low .put-be162 .ensures)
+    ∙ ap (patch _ _) (bytes-halves 2 2 _)
 
 pub put-be32-spec : {M : Type 1} → statement M
 put-be32-spec =

@@ -1,7 +1,6 @@
-use mathlib.Core.Path.{_≡_, sym, _∙_, ap}
+use mathlib.Core.Path.{sym, _∙_, ap}
 use Prim.Native.Nat.{ℕ}
 use Rattle.mrt_lent.specs.Writer.{wroteOf}
-use Rattle.mrt_lent.specs.declared.Wrote.{Wrote}
 use borrow.Author.Needs.{needs}
 use Rattle.mrt_lent.proofs.writer.wrote_of.Statement.{statement}
 use Rattle.mrt_lent.proofs.writer.wrote_of.Tie as tie

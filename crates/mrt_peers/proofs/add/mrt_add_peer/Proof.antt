@@ -1,5 +1,5 @@
--- `mrt_peers::mrt_add_peer` meets its contract: a walk of its MIR, by hand, of three calls. `peers_add::add_peer` has the slots for good, and
--- says what they hold after it. Assumes nothing.
+-- `mrt_peers::mrt_add_peer` meets its contract: a walk of its MIR, by hand, of three calls. `peers_add::add_peer` has the slots for good,
+-- and says what they hold after it. Assumes nothing.
 use mathlib.Core.Path.{_≡_, refl, ap, subst}
 use Prim.Native.Nat.{ℕ, _<_, _^_}
 use mathlib.Core.List.{[], _∷_, List}

@@ -1,5 +1,5 @@
--- `mrt_peers_read::mrt_load_peers` meets its contract: a walk of its MIR, by hand, of two calls. `peers_read::load_peers` is asked for what the
--- function is itself lent, for good, and says what the slots hold after it. Assumes nothing.
+-- `mrt_peers_read::mrt_load_peers` meets its contract: a walk of its MIR, by hand, of two calls. `peers_read::load_peers` is asked for
+-- what the function is itself lent, for good, and says what the slots hold after it. Assumes nothing.
 use mathlib.Core.Path.{_≡_, refl, ap, subst}
 use Prim.Native.Nat.{ℕ}
 use mathlib.Core.List.{[], _∷_, List}

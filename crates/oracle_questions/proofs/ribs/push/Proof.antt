@@ -1,6 +1,5 @@
 use native.Mathlib.Omega.{arith}
 use Rattle.io.proofs.Counting.{front}
-use lib.ListN.{length}
 use borrow.Author.Needs.{needs}
 use Rattle.oracle_questions.proofs.ribs.push.Statement.{statement}
 use Rattle.oracle_questions.proofs.ribs.push.Tie as tie

@@ -1,9 +1,8 @@
 -- `peers_add::add_peer` meets its contract: a walk of its MIR, by hand. The slots' borrow is opened, and all of it is lent as a shared
 -- slice to `look_up` for a lifetime of that call; it comes back as it was. `place` then says which slot to write, if any, and the
 -- borrow is closed at the slots with the peer in it, or as they were. Assumes nothing.
-use mathlib.Core.Path.{_≡_, refl, sym, _∙_, ap, subst}
-use Prim.Native.Nat.{ℕ, _*_, _<_, _≤_, _^_}
-use mathlib.Core.Bool.{Bool}
+use mathlib.Core.Path.{_≡_, refl, sym, ap, subst}
+use Prim.Native.Nat.{ℕ, _*_, _<_, _^_}
 use mathlib.Core.List.{[], _∷_, List}
 use native.Mathlib.Omega.{arith}
 use lib.Dec.{ltb, ltb→lt, nltb→le}
@@ -59,13 +58,13 @@ use Rattle.peers_entry.proofs.stored_peer.Symbol as store-def
 use Rattle.peers_entry.proofs.stored_peer.Symbol.{name as #stored-peer}
 use Rattle.peers_entry.proofs.stored_peer.Met as store-thm
 use Rattle.peers_find.specs.Find.{finding, lookUp}
-use Rattle.peers_add.specs.Add.{Adding, adding, addPeer}
-use Rattle.peers_add.specs.Steps.{placeOf}
+use Rattle.peers_add.specs.Add.{adding, addPeer}
+use Rattle.peers_add.specs.Steps.{Placed}
 use Rattle.peers_find.specs.declared.FindAnswer.{FindAnswer}
 use Rattle.peers_add.specs.declared.AddAnswer.{AddAnswer}
 use Rattle.peers_add.specs.declared.Place.{Place}
 use Rattle.peers_slots.proofs.Shape.{stride, vals, low, word, lentSlots}
-use Rattle.peers_add.proofs.Adds.{add-stored, add-kept}
+use Rattle.peers_add.proofs.Steps.{add-stored, add-kept}
 use Rattle.peers_find.proofs.FindAnswer as F
 use Rattle.peers_find.proofs.FindAnswer.Laws as F′
 use Rattle.peers_add.proofs.AddAnswer as D
@@ -181,7 +180,7 @@ module _ {M : Type 1} (𝓤 : URA M) (H : Heap 𝓤) (A : Atoms 𝓤) (W : Given
   toP f = ((tt, tt, tt, givenP f, passedP f), tt)
 
   abbrev placed : FindAnswer → Place → Type 0
-  placed f g = (adding (g .answer) [], g .at) ≡ placeOf n count (finding f)
+  placed f g = Placed n count (finding f) g
 
   askedP : (f : FindAnswer) → ent 𝓤 (sep 𝓤 (sem 𝓤 H A ftrue) (sem 𝓤 H A (owns (usize ∷ usize ∷ F.the-row
       ∷ []) (givenP f) (passedP f)))) (Places 𝓤 H A at-mem run .pre (toP f))
@@ -290,9 +289,9 @@ module _ {M : Type 1} (𝓤 : URA M) (H : Heap 𝓤) (A : Atoms 𝓤) (W : Given
         elem-put ! T.the-row fullShare ys (g .at) r (vals r) b o within $
         closes-slice ! tt T.the-row ys (set ys (g .at) r) (length-set ys (g .at) r) b o $ forget ! 3 refl $ forget ! 5 refl $
         forget ! 7 refl $
-        last (set ys (g .at) r) (length-set ys (g .at) r) (add-stored ys count p (g .answer) f-is g-is within r r-is)))))))
+        last (set ys (g .at) r) (length-set ys (g .at) r) (add-stored ys count p g f-is g-is r-is)))))))
         (λ y. skips ! $ exec ! C Λ En mirs.t-9 (atRet En Post) $ closes-slice ! tt T.the-row ys ys refl b o $
-        last ys refl (add-kept ys count p (g .answer) f-is g-is (nltb→le (g .at) n y)))
+        last ys refl (add-kept ys count p g f-is g-is (nltb→le (g .at) n y)))
 
   -- after the lookup, which answered f. [the slots; the open borrow; obs; auth; the locals]
   module _ (C : Calls 𝓤 H) (Λ : Loops 𝓤 H) (fm : FmC 𝓤 H (W .laws) C) (knownP : Triple 𝓤 (C #place) (Places 𝓤 H A at-mem run))

@@ -16,7 +16,7 @@ returns : tie.Need-returns
 returns c = place-known _ _ _ (c .before .found .given .1)
 
 returns-2 : tie.Need-returns-2
-returns-2 c = place-unknown _ _ _ (c .before .enum-told .given .1) (c .place-new .ensures)
+returns-2 c = place-unknown _ _ _ (c .place-new .result) (c .before .enum-told .given .1) (c .place-new .ensures)
 
 pub place-spec : {M : Type 1} → statement M
 place-spec = tie.close (tie.spec enum-known-found enum-told place-new-requires returns returns-2)

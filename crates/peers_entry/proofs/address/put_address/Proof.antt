@@ -13,13 +13,17 @@ address-size-requires : tie.Need-address-size-requires
 address-size-requires c κs = search needs
 
 put-four-requires : tie.Need-put-four-requires
-put-four-requires c κs = (omega (arith, address-least (c .before .before .before .before .args .kind)), omega (arith, address-least (c .before .before .before .before .args .kind)))
+put-four-requires c κs =
+    let least = address-least (c .before .before .before .before .args .kind) in
+    (omega (arith, least), omega (arith, least))
 
 same-length : tie.Need-same-length
 same-length c = search needs
 
 returns : tie.Need-returns
-returns c = short-stored _ _ _ _ _ (c .before .before .before .before .before .address-size .ensures) (c .before .before .before .put-four .ensures) (c .if1 .taken)
+returns c =
+    let at-first = c .before .before .before in
+    short-stored _ _ _ _ _ (at-first .before .before .address-size .ensures) (at-first .put-four .ensures) (c .if1 .taken)
 
 add-put-four : tie.Need-add-put-four
 add-put-four c = search needs
@@ -32,7 +36,11 @@ long : (c : tie.Else1) → addressSize (c .before .before .before .before .befor
 long c = address-either _ (λ z. c .if1 .left (c .before .before .before .before .before .address-size .ensures ∙ z))
 
 put-four-requires-2 : tie.Need-put-four-requires-2
-put-four-requires-2 c κs = (omega (arith, long (c .before), ap length (c .before .before .before .before .put-four .ensures) ∙ length-patch _ _ _), omega (arith, long (c .before)))
+put-four-requires-2 c κs =
+    let at-else = c .before in
+    let at-first = at-else .before .before .before in
+    let one = ap length (at-first .put-four .ensures) ∙ length-patch _ _ _ in
+    (omega (arith, long at-else, one), omega (arith, long at-else))
 
 add-put-four-3 : tie.Need-add-put-four-3
 add-put-four-3 c = search needs
@@ -41,7 +49,13 @@ add-put-four-4 : tie.Need-add-put-four-4
 add-put-four-4 c = search needs
 
 put-four-requires-3 : tie.Need-put-four-requires-3
-put-four-requires-3 c κs = (omega (arith, long (c .before .before .before .before .before), ap length (c .before .before .before .before .before .before .before .before .put-four .ensures) ∙ length-patch _ _ _, ap length (c .before .before .before .put-four2 .ensures) ∙ length-patch _ _ _), omega (arith, long (c .before .before .before .before .before)))
+put-four-requires-3 c κs =
+    let at-second = c .before .before .before in
+    let at-else = at-second .before .before in
+    let at-first = at-else .before .before .before in
+    let one = ap length (at-first .put-four .ensures) ∙ length-patch _ _ _ in
+    let two = ap length (at-second .put-four2 .ensures) ∙ length-patch _ _ _ in
+    (omega (arith, long at-else, one, two), omega (arith, long at-else))
 
 add-put-four-5 : tie.Need-add-put-four-5
 add-put-four-5 c = search needs
@@ -50,14 +64,28 @@ add-put-four-6 : tie.Need-add-put-four-6
 add-put-four-6 c = search needs
 
 put-four-requires-4 : tie.Need-put-four-requires-4
-put-four-requires-4 c κs = (omega (arith, long (c .before .before .before .before .before .before .before .before .before), ap length (c .before .before .before .before .before .before .before .before .before .before .before .before .put-four .ensures) ∙ length-patch _ _ _, ap length (c .before .before .before .before .before .before .before .put-four2 .ensures) ∙ length-patch _ _ _, ap length (c .before .before .before .put-four3 .ensures) ∙ length-patch _ _ _), omega (arith, long (c .before .before .before .before .before .before .before .before .before)))
+put-four-requires-4 c κs =
+    let at-third = c .before .before .before in
+    let at-second = at-third .before .before .before .before in
+    let at-else = at-second .before .before in
+    let at-first = at-else .before .before .before in
+    let one = ap length (at-first .put-four .ensures) ∙ length-patch _ _ _ in
+    let two = ap length (at-second .put-four2 .ensures) ∙ length-patch _ _ _ in
+    let three = ap length (at-third .put-four3 .ensures) ∙ length-patch _ _ _ in
+    (omega (arith, long at-else, one, two, three), omega (arith, long at-else))
 
 same-length-2 : tie.Need-same-length-2
 same-length-2 c = search needs
 
 returns-2 : tie.Need-returns-2
-returns-2 c = long-stored _ _ _ _ _ (c .before .before .before .before .before .before .before .before .before .before .before .before .before .before .before .before .before .address-size .ensures) (c .before .before .before .before .before .before .before .before .before .before .before .before .before .before .before .put-four .ensures) (c .before .before .before .before .before .before .before .before .before .before .before .before .if1 .left)
-    (c .before .before .before .before .before .before .before .before .before .before .put-four2 .ensures) (c .before .before .before .before .before .before .put-four3 .ensures) (c .before .before .put-four4 .ensures)
+returns-2 c =
+    let at-fourth = c .before .before in
+    let at-third = at-fourth .before .before .before .before in
+    let at-second = at-third .before .before .before .before in
+    let at-else = at-second .before .before in
+    let at-first = at-else .before .before .before in
+    long-stored _ _ _ _ _ (at-first .before .before .address-size .ensures) (at-first .put-four .ensures) (at-else .if1 .left)
+    (at-second .put-four2 .ensures) (at-third .put-four3 .ensures) (at-fourth .put-four4 .ensures)
 
 pub put-address-spec : {M : Type 1} → statement M
 put-address-spec =

@@ -25,7 +25,11 @@ same-length : tie.Need-same-length
 same-length c = search needs
 
 returns : tie.Need-returns
-returns c = four-stored _ _ _ _ (λ i. c .before .before .before .before .before .before .shared-slice-known .given i .fits) (c .before .before .before .before .before .before .before .before .pre .1) (c .before .before .before .be32 .ensures) (c .before .before .store32 .ensures)
+returns c =
+    let at-word = c .before .before in
+    let at-known = at-word .before .before .before .before in
+    four-stored _ _ _ _ (λ i. at-known .shared-slice-known .given i .fits) (at-known .before .before .pre .1)
+    (at-word .before .be32 .ensures) (at-word .store32 .ensures)
 
 pub put-four-spec : {M : Type 1} → statement M
 put-four-spec =

@@ -10,7 +10,10 @@ low-first-requires-2 : tie.Need-low-first-requires-2
 low-first-requires-2 c κs = search needs
 
 returns : tie.Need-returns
-returns c = four-same _ _ (λ i. c .before .before .before .shared-slice-known .given i .fits) (λ i. c .before .before .shared-slice-known2 .given i .fits) _ (c .before .low-first .ensures) (c .low-first2 .ensures)
+returns c =
+    let at-known = c .before .before in
+    four-same _ _ (λ i. at-known .before .shared-slice-known .given i .fits) (λ i. at-known .shared-slice-known2 .given i .fits) _
+    (c .before .low-first .ensures) (c .low-first2 .ensures)
 
 pub same-four-spec : {M : Type 1} → statement M
 same-four-spec = tie.close (tie.spec low-first-requires low-first-requires-2 returns)

@@ -12,7 +12,9 @@ slice-aggregate-read-address c = search needs
 
 read-address-requires : tie.Need-read-address-requires
 read-address-requires c κs =
-    let e : 16 ≡ length (c .before .before .args .p .addr) = slice-aggregate-read-address c in omega (arith, address-le (c .before .before .args .p .kind))
+    let start = c .before .before .args in
+    let e : 16 ≡ length (start .p .addr) = slice-aggregate-read-address c in
+    omega (arith, address-le (start .p .kind))
 
 returns : tie.Need-returns
 returns c = store-is _ (c .read-address .ensures)

@@ -30,7 +30,11 @@ same-length : tie.Need-same-length
 same-length c = search needs
 
 returns : tie.Need-returns
-returns c = as-stored _ _ _ _ (c .before .before .before .before .before .before .before .before .as-size .ensures) (c .before .before .before .before .before .before .before .before .before .before .pre) (c .before .before .before .before .before .before .store16 .ensures) (c .before .before .store162 .ensures)
+returns c =
+    let at-last = c .before .before in
+    let at-first = at-last .before .before .before .before in
+    let at-size = at-first .before .before in
+    as-stored _ _ _ _ (at-size .as-size .ensures) (at-size .before .before .pre) (at-first .store16 .ensures) (at-last .store162 .ensures)
 
 pub put-as-spec : {M : Type 1} → statement M
 put-as-spec =

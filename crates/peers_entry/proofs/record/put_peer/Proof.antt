@@ -37,21 +37,30 @@ slice-aggregate-put-address c = search needs
 
 put-address-requires : tie.Need-put-address-requires
 put-address-requires c κs =
-    let start = c .before .before .before .before .before .before .before .before .before .before .before .before .before .before .before .before .args in
-    let e : 16 ≡ length (start .p .addr) = slice-aggregate-put-address c in (
-      omega (arith, size-is (start .p .kind), ap length (c .before .before .before .before .before .store32 .ensures) ∙ length-patch _ _ _, ap length (c .before .before .before .before .before .before .before .before .before .put-octet .ensures) ∙ length-patch _ _ _),
-      omega (arith, address-le (start .p .kind)),
-    )
+    let at-word = c .before .before .before .before .before in
+    let at-octet = at-word .before .before .before .before in
+    let start = at-octet .before .before .before .before .before .before .before .args in
+    let e : 16 ≡ length (start .p .addr) = slice-aggregate-put-address c in
+    let one = ap length (at-octet .put-octet .ensures) ∙ length-patch _ _ _ in
+    let two = ap length (at-word .store32 .ensures) ∙ length-patch _ _ _ in
+    (omega (arith, size-is (start .p .kind), one, two), omega (arith, address-le (start .p .kind)))
 
 add-put-as : tie.Need-add-put-as
 add-put-as c =
-    let start = c .before .before .before .before .before .before .before .before .before .before .before .before .before .before .before .before .before .before .before .before .args in
+    let start = c .before .before .before .before .before .before .before .before .before .before .before .before .before .before .before
+    .before .before .before .before .before .args in
     omega (arith, address-le (start .p .kind), size-is (start .p .kind))
 
 put-as-requires : tie.Need-put-as-requires
 put-as-requires c κs =
-    let start = c .before .before .before .before .before .before .before .before .before .before .before .before .before .before .before .before .before .before .before .before .args in
-    omega (arith, size-is (start .p .kind), ap length (c .before .before .before .put-address .ensures) ∙ length-patch _ _ _, ap length (c .before .before .before .before .before .before .before .before .before .store32 .ensures) ∙ length-patch _ _ _, ap length (c .before .before .before .before .before .before .before .before .before .before .before .before .before .put-octet .ensures) ∙ length-patch _ _ _)
+    let at-address = c .before .before .before in
+    let at-word = at-address .before .before .before .before .before .before in
+    let at-octet = at-word .before .before .before .before in
+    let start = at-octet .before .before .before .before .before .before .before .args in
+    let one = ap length (at-octet .put-octet .ensures) ∙ length-patch _ _ _ in
+    let two = ap length (at-word .store32 .ensures) ∙ length-patch _ _ _ in
+    let three = ap length (at-address .put-address .ensures) ∙ length-patch _ _ _ in
+    omega (arith, size-is (start .p .kind), one, two, three)
 
 add-result : tie.Need-add-result
 add-result c = search needs
@@ -61,11 +70,14 @@ same-length c = search needs
 
 returns-3 : tie.Need-returns-3
 returns-3 c =
-    let at-word = c .before .before .before .before .before .before .before .before .before .before .before .before in
+    let at-as = c .before .before in
+    let at-address = at-as .before .before .before .before in
+    let at-word = at-address .before .before .before .before .before .before in
     let at-octet = at-word .before .before .before .before in
     let at-if2 = at-octet .before .before .before in
-    put-whole _ _ _ (at-if2 .before .before .peer-size .ensures) (at-if2 .before .if1 .left) (at-if2 .if2 .left) (at-octet .before .before .address-size .ensures)
-    (at-octet .put-octet .ensures) (at-word .store32 .ensures) (c .before .before .before .before .before .before .put-address .ensures) (c .before .before .put-as .ensures)
+    put-whole _ _ _ (at-if2 .before .before .peer-size .ensures) (at-if2 .before .if1 .left) (at-if2 .if2 .left)
+    (at-octet .before .before .address-size .ensures) (at-octet .put-octet .ensures) (at-word .store32 .ensures)
+    (at-address .put-address .ensures) (at-as .put-as .ensures)
 
 pub put-peer-spec : {M : Type 1} → statement M
 put-peer-spec =

@@ -54,10 +54,14 @@ add-result : tie.Need-add-result
 add-result c = search needs
 
 returns : tie.Need-returns
-returns c = as-read-long _ _ _ (c .before .before .before .before .before .as-size .ensures) (c .before .before .before .be16 .ensures) (c .if1 .taken) (c .before .be162 .ensures)
+returns c =
+    let at-first = c .before .before .before in
+    as-read-long _ _ _ (at-first .before .before .as-size .ensures) (at-first .be16 .ensures) (c .if1 .taken) (c .before .be162 .ensures)
 
 returns-2 : tie.Need-returns-2
-returns-2 c = as-read-short _ _ _ (c .before .before .before .before .before .as-size .ensures) (c .before .before .before .be16 .ensures) (c .if1 .left)
+returns-2 c =
+    let at-first = c .before .before .before in
+    as-read-short _ _ _ (at-first .before .before .as-size .ensures) (at-first .be16 .ensures) (c .if1 .left)
 
 pub read-as-spec : {M : Type 1} → statement M
 read-as-spec =

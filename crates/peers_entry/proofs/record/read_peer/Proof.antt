@@ -51,7 +51,9 @@ be32-requires : tie.Need-be32-requires
 be32-requires c κs = search needs
 
 add-read-as : tie.Need-add-read-as
-add-read-as c = omega (arith, address-le (c .before .before .before .before .before .before .octet .result), size-is (c .before .before .before .before .before .before .octet .result))
+add-read-as c =
+    let kind = c .before .before .before .before .before .before .octet .result in
+    omega (arith, address-le kind, size-is kind)
 
 read-as-requires : tie.Need-read-as-requires
 read-as-requires c κs = omega (arith, size-is (c .before .before .before .before .before .before .octet .result))
@@ -61,9 +63,11 @@ add-t22 c = search needs
 
 returns-3 : tie.Need-returns-3
 returns-3 c =
-    read-whole _ _ (c .before .before .before .before .before .before .before .before .if1 .left) (c .before .before .before .before .before .before .before .octet .ensures) (c .before .before .before .before .before .before .peer-size .ensures)
-    (c .before .before .before .before .before .if2 .left) (c .before .before .before .before .address-size .ensures)
-    (c .before .before .before .read-address .ensures) (c .before .be32 .ensures) (c .read-as .ensures)
+    let at-if2 = c .before .before .before .before .before in
+    let at-octet = at-if2 .before .before in
+    read-whole _ _ (at-octet .before .if1 .left) (at-octet .octet .ensures) (at-if2 .before .peer-size .ensures) (at-if2 .if2 .left)
+    (c .before .before .before .before .address-size .ensures) (c .before .before .before .read-address .ensures)
+    (c .before .be32 .ensures) (c .read-as .ensures)
 
 pub read-peer-spec : {M : Type 1} → statement M
 read-peer-spec =

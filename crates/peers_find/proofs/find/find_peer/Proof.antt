@@ -1,6 +1,6 @@
 -- `peers_find::find_peer` meets its contract: a walk of its MIR, by hand, of two calls. The slots are passed on: what they own can be
 -- copied, so one copy is kept for the exit. Assumes nothing.
-use mathlib.Core.Path.{_≡_, refl, sym, _∙_, ap, subst}
+use mathlib.Core.Path.{_≡_, refl, ap, subst}
 use Prim.Native.Nat.{ℕ, _<_, _^_}
 use mathlib.Core.Bool.{Bool}
 use mathlib.Core.List.{[], _∷_, List}
@@ -28,7 +28,7 @@ use denote.Plain.{uint-vals, uint-tells, uint-makes, uint-lawful, bool-vals, boo
 use denote.Array.{Array, array-vals, array-tells, array-makes, array-lawful}
 use denote.Builtin.{u8, usize, bool, ArrayOf}
 use denote.Ref.{RefT}
-use denote.Slice.{sliceVal, ShrSlice, Room, slice-vals, shr-slice-tells, shr-slice-copy, shr-slice-lawful}
+use denote.Slice.{sliceVal, ShrSlice, slice-vals, shr-slice-tells, shr-slice-copy, shr-slice-lawful}
 use denote.Signature.{plain}
 use denote.Steps.{only, owned, peeks, heard, nothing}
 use denote.Struct.Laws as LL
@@ -52,7 +52,7 @@ use Rattle.peers_entry.proofs.address_key.Symbol.{name as #address-key}
 use Rattle.peers_entry.proofs.address_key.Met as key-thm
 use Rattle.peers_find.specs.Find.{finding, lookUp, findPeer}
 use Rattle.peers_find.specs.declared.FindAnswer.{FindAnswer}
-use Rattle.peers_slots.proofs.Shape.{vals, low}
+use Rattle.peers_slots.proofs.Shape.{vals}
 use Rattle.peers_find.proofs.Slots.{find-is}
 use Rattle.peers_find.proofs.FindAnswer as F
 use Rattle.peers_find.proofs.FindAnswer.Laws as F′

@@ -69,12 +69,12 @@ use Rattle.peers_entry.proofs.put_peer.Symbol.{name as #put-peer}
 use Rattle.peers_entry.proofs.put_peer.Met as put-thm
 use Rattle.peers_write.specs.Write.{peersOctets, writePeers}
 use Rattle.peers_slots.specs.Used.{inUse}
-use Rattle.peers_write.specs.Steps.{sizes, leaves, starting, startWrite}
+use Rattle.peers_write.specs.Steps.{sizes, leaves, Starts}
 use Rattle.peers_write.specs.declared.Left.{Left}
 use Rattle.peers_write.specs.declared.Start.{Start}
-use Rattle.peers_slots.proofs.Shape.{stride, vals, low, word, sharedSlots, sharedOctets, lentOctets}
+use Rattle.peers_slots.proofs.Shape.{stride, vals, word, sharedSlots, sharedOctets, lentOctets}
 use Rattle.peers_write.proofs.Again.{LentAgain, lends-at, back-at}
-use Rattle.peers_write.proofs.Writes.{written-none, written-turn, write-held, write-room, write-is}
+use Rattle.peers_write.proofs.Writes.{written-none, written-turn, write-room, write-is}
 use Rattle.peers_write.proofs.Left as F
 use Rattle.peers_write.proofs.Left.Laws as F′
 use Rattle.peers_write.proofs.Start as S
@@ -222,7 +222,7 @@ module _ {M : Type 1} (𝓤 : URA M) (H : Heap 𝓤) (A : Atoms 𝓤) (W : Given
   toH ν δ f = (((ν ∷ [], (κ′, tt)), (fullShare, (q′, tt)), tt, givenH δ f, passedH ν f), tt)
 
   abbrev started : Left → Start → List ℕ → Type 0
-  started f g t = starting g t ≡ startWrite os collector view n count f
+  started f g t = Starts os collector view n count f g t
 
   askedH : (ν : ℕ) (δ : GName) (f : Left) → ent 𝓤 (onEntry 𝓤 H A head′.signature (
     ν
@@ -295,7 +295,7 @@ module _ {M : Type 1} (𝓤 : URA M) (H : Heap 𝓤) (A : Atoms 𝓤) (W : Given
       -- a peer that is to be written has room in the output as it is
       has-room : (t : State) → t .0 < m → g .at + sizes ys (t .0 + 1) ≤ length (t .2)
       has-room t less = subst (λ (k : ℕ). g .at + sizes ys (t .0 + 1) ≤ k) (sym (t .5))
-          (write-room os collector view ys count f f-is g t₀ g-is (t .0) less)
+          (write-room os collector view ys count g t₀ (g-is ys refl f-is) (t .0) less)
 
       module _ (𝓣 : Tables 𝓤 H) (fm : FmC 𝓤 H (W .laws) (𝓣 .C)) (known : Triple 𝓤 (𝓣 .C #put-peer) (Put 𝓤 H A at-mem run)) (held : m ≤ n)
           (q‴ : Share) (l₀ l₁ l₂ l₃ l₄ l₅ l₆ l₇ l₈ l₉ l₁₀ l₁₁ l₁₂ l₁₃ l₁₄ l₁₅ l₁₆ l₁₇ l₁₈ : ℕ) where
@@ -351,7 +351,7 @@ module _ {M : Type 1} (𝓤 : URA M) (H : Heap 𝓤) (A : Atoms 𝓤) (W : Given
             move ! (20 ∷ 21 ∷ []) $ free1 ! $ move ! (18 ∷ 19 ∷ []) $ free1 ! $ move ! (16 ∷ 17 ∷ []) $ free1 ! $ move ! (14 ∷ 15
             ∷ []) $ free1 ! $ move ! (12 ∷ 13 ∷ []) $ free1 ! $ move ! (10 ∷ 11 ∷ []) $ free1 ! $ move ! (8 ∷ 9 ∷ []) $ free1 ! $
             move ! (6 ∷ 7 ∷ []) $ free1 ! $ free0 ! $
-            by ! (exits (t .2) (g .answer) (t .5) isG (write-is os collector view ys count f f-is g t₀ g-is (t .3) (ltb-false _ _ e)
+            by ! (exits (t .2) (g .answer) (t .5) isG (write-is os collector view ys count g t₀ (g-is ys refl f-is) (t .3) (ltb-false _ _ e)
             (t .6)))
 
         -- the state after a turn
@@ -554,8 +554,8 @@ module _ {M : Type 1} (𝓤 : URA M) (H : Heap 𝓤) (A : Atoms 𝓤) (W : Given
           -- the result; …; the view name; the locals]
           keep ! (0 ∷ 1 ∷ 3 ∷ 6 ∷ 7 ∷ 10 ∷ 4 ∷ 11 ∷ 12 ∷ 13 ∷ 14 ∷ 15 ∷ 16 ∷ 17 ∷ 18 ∷ 19 ∷ 20 ∷ 21 ∷ 22 ∷ 23 ∷ 24 ∷ 25 ∷ 26 ∷ 27 ∷ 28 ∷ 29
           ∷ 30 ∷ 31 ∷ 32 ∷ 33 ∷ 34 ∷ 35 ∷ 36 ∷ 37 ∷ 38 ∷ 39 ∷ 40 ∷ 41 ∷ 42 ∷ 43 ∷ 44 ∷ 45 ∷ 46 ∷ 47 ∷ 48 ∷ []) $
-          looped g isG at-fits (zs .0) same g-is 𝓣 fm known (write-held os collector view ys count f f-is g
-          (zs .0) g-is) q‴ l₀ l₁ l₂ l₃ l₄ l₅ l₆ l₇ l₈ l₉ l₁₀ l₁₁ l₁₂ l₁₃ l₁₄ l₁₅ l₁₆ l₁₇ l₁₈)))))))))
+          looped g isG at-fits (zs .0) same g-is 𝓣 fm known (g-is ys refl f-is .held) q‴
+          l₀ l₁ l₂ l₃ l₄ l₅ l₆ l₇ l₈ l₉ l₁₀ l₁₁ l₁₂ l₁₃ l₁₄ l₁₅ l₁₆ l₁₇ l₁₈)))))))))
 
   walk : (𝓣 : Tables 𝓤 H) (fm : FmC 𝓤 H (W .laws) (𝓣 .C)) → Triple 𝓤 (𝓣 .C #measure) (Measure 𝓤 H A at-mem run)
       → Triple 𝓤 (𝓣 .C #write-head) (Head 𝓤 H A at-mem run) → Triple 𝓤 (𝓣 .C #put-peer) (Put 𝓤 H A at-mem run)
@@ -668,4 +668,5 @@ write-peers-spec 𝓤 H 𝓜 𝓖 𝓡 =
     (measure-thm.met 𝓤 H 𝓜 𝓖 𝓡))
     (cited 𝓤 H (Head 𝓤 H (𝓖 .A) (𝓜 .mem) (𝓡 .run)) 𝓜 𝓡 code.env #write-head head-def.routine code.calls-peers-write·step·write-head
     (head-thm.met 𝓤 H 𝓜 𝓖 𝓡))
-    (cited 𝓤 H (Put 𝓤 H (𝓖 .A) (𝓜 .mem) (𝓡 .run)) 𝓜 𝓡 code.env #put-peer put-def.routine code.calls-peers-entry·put-peer (put-thm.met 𝓤 H 𝓜 𝓖 𝓡)))
+    (cited 𝓤 H (Put 𝓤 H (𝓖 .A) (𝓜 .mem) (𝓡 .run)) 𝓜 𝓡 code.env #put-peer put-def.routine code.calls-peers-entry·put-peer
+    (put-thm.met 𝓤 H 𝓜 𝓖 𝓡)))

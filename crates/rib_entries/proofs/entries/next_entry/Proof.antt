@@ -44,7 +44,8 @@ returns-4 c =
     let at-layout-of = at-if2 .before .before in
     next-short _ _ _
     (at-layout-of .before .if1 .left) (carried-so _ (at-layout-of .layout-of .ensures) (at-if2 .if2 .left)) (at-if3 .if3 .left)
-    (here-unfit _ _ _ _ (at-read-entry .read-entry .ensures ∙ here-sized _ _ (path-of _ (at-layout-of .layout-of .ensures))) (c .enum-told .given .1))
+    (here-unfit _ _ _ _ (at-read-entry .read-entry .ensures ∙ here-sized _ _ (path-of _ (at-layout-of .layout-of .ensures)))
+    (c .enum-told .given .1))
 
 returns-5 : tie.Need-returns-5
 returns-5 c =
