@@ -73,7 +73,7 @@ fn main() -> ExitCode {
             return ExitCode::FAILURE;
         }
     };
-    println!("seed {}, {} places in each file, answers of the {}", settings.seed, settings.places, SUBJECT.name());
+    println!("seed {}, {} places in each file, answers: {}", settings.seed, settings.places, SUBJECT.name());
     println!("| file | {CUT} octets cut out: {COLUMNS} | {BLOCK} zeroed: {COLUMNS} |");
     println!("|---|---|---|---|---|---|---|---|---|---|---|---|---|");
     let (long, short): (Vec<_>, Vec<_>) = files.iter().partition(|(_, file)| file.len() >= SHORTEST);
