@@ -11,8 +11,8 @@ pub const ASKED: u8 = 3;
 /// The octets of a record that nothing is held to.
 const TIMESTAMP: usize = 4;
 
-/// What was written: the records that a walk hands out of the file before it is torn, by their octets and by those after
-/// the timestamp, and the peer indexes of their routes.
+/// What was written: the records that a walk hands out of the file before it is torn, by their octets and by those
+/// after the timestamp, and the peer indexes of their routes.
 pub struct Written<'a> {
     records: HashSet<&'a [u8]>,
     undated: HashSet<&'a [u8]>,
