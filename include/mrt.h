@@ -2,8 +2,9 @@
  * MRT dumps (RFC 6396, RFC 8050): headers, records, peer tables, RIB bodies and the recovering walk.
  *
  * Each slice is passed as its pointer and its length in elements. A length of 0 may come with any pointer, NULL too.
- * Memory that a call writes must overlap no other memory that it is lent, and is aligned for its type. No call keeps a
- * pointer, allocates, or fails otherwise than by its result.
+ * Of a caller this is asked, which no call can test: the elements are there, aligned for their type; memory that a call
+ * writes overlaps no other memory that it is lent; and nobody else writes to either during the call. Every value, length
+ * and offset is accepted. No call keeps a pointer, allocates, or fails otherwise than by its result.
  *
  * A call that returns uint32_t returns 0 where it has served, or a refusal's number:
  *

@@ -19,4 +19,5 @@ pub mod reading;
 pub mod rules;
 pub mod sample;
 pub mod subject;
+pub mod tears;
 pub mod text;
