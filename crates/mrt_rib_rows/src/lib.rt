@@ -35,9 +35,8 @@ pub extern "C" fn mrt_push_entries(
             builder: next,
             rows: pushed,
         } => {
-            builder[0] = next.len as u64;
-            builder[1] = next.at as u64;
-            builder[2] = next.count as u64;
+            let v = [next.len as u64, next.at as u64, next.count as u64];
+            mrt_lent::put_values(builder, &v);
             Handed {
                 count: pushed as u64,
                 refusal: 0,

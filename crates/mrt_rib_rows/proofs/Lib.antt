@@ -1,0 +1,2 @@
+-- Pushes: the cases of `mrt_push_entries`.
+mod Pushes

@@ -1,0 +1,2 @@
+-- Rows: what the call over a builder and rows returns and leaves.
+pub mod Rows
