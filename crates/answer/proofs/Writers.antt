@@ -25,4 +25,5 @@ pub wrote-unique : (a b : Written) (t u : List ℕ) → wrote a t ≡ wrote b u 
 wrote-unique (Octets m) (Octets n) t u e = (ap (λ (w : Writing). Octets (w .octets)) e, ap (λ (w : Writing). w .output) e)
 wrote-unique (Octets m) (Refused r) t u e = absurd (number-not-zero r (ap (λ (w : Writing). w .number) (sym e)))
 wrote-unique (Refused r) (Octets n) t u e = absurd (number-not-zero r (ap (λ (w : Writing). w .number) e))
-wrote-unique (Refused r) (Refused q) t u e = (ap Refused (number-unique r q (ap (λ (w : Writing). w .number) e)), ap (λ (w : Writing). w .output) e)
+wrote-unique (Refused r) (Refused q) t u e =
+    (ap Refused (number-unique r q (ap (λ (w : Writing). w .number) e)), ap (λ (w : Writing). w .output) e)
