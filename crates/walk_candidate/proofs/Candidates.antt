@@ -1,7 +1,7 @@
 -- The candidate test in each of its cases, and that a candidate is a record that passes.
 use Prim.Native.Nat.{ℕ, _+_, _-_, _*_, _<_, _≤_}
 use mathlib.Core.Path.{_≡_, refl, sym, _∙_, ap}
-use mathlib.Core.Bool.{Bool, true, false, _&&_, and-false, not, cond}
+use mathlib.Core.Bool.{Bool, true, false, _&&_, and-true, and-false, not, _||_, cond}
 use mathlib.Core.List.{List}
 use native.Mathlib.Omega.{arith}
 use lib.ListN.{length, drop, getD}
@@ -67,35 +67,38 @@ module _ {j : Judged} where
 positive : (n : ℕ) → (n ≡ 0 → ⊥) → 0 < n
 positive n h = omega arith
 
--- a length that no candidate has
-plausible-most : (k u n us : ℕ) → 65599 < n → plausible k u n us ≡ false
-unfolding plausible
-plausible-most k u n us l = simp (lt-leb n 65599 l, and-false)
-
--- what the header alone decides; f is its family
-module _ (k u n us : ℕ) {f : ℕ} (e : f ≡ family k) where
-  pub plausible-family : f ≡ 0 → false ≡ plausible k u n us
+-- what the header alone decides
+module _ (k u n us : ℕ) where
+  -- a length that no candidate has
+  pub plausible-long : 65599 < n → false ≡ plausible k u n us
   unfolding plausible
-  plausible-family z = simp (← e, eq-eqb _ _ z)
+  plausible-long l = simp (lt-leb n 65599 l, and-false)
 
-  module _ (g : f ≡ 0 → ⊥) where
-    pub plausible-long : 65599 < n → false ≡ plausible k u n us
+  -- nor such microseconds
+  pub plausible-late : 1000000 ≤ us → false ≡ plausible k u n us
+  unfolding plausible
+  plausible-late m = simp (le-ltb us 1000000 m, and-false)
+
+  -- f is its family
+  module _ {f : ℕ} (e : f ≡ family k) where
+    pub plausible-family : f ≡ 0 → false ≡ plausible k u n us
     unfolding plausible
-    plausible-long l = simp (← e, ne-eqb _ _ g, lt-leb _ _ l)
+    plausible-family z = simp (← e, eq-eqb _ _ z)
 
-    module _ (l : n ≤ 65599) where
-      pub plausible-late : 1000000 ≤ us → false ≡ plausible k u n us
+    module _ (g : f ≡ 0 → ⊥) (l : n ≤ 65599) (m : us < 1000000) where
+      pub plausible-message : (k ≡ 5 → ⊥) → not (eqb (asSize u) 0) ≡ plausible k u n us
       unfolding plausible
-      plausible-late m = simp (← e, ne-eqb _ _ g, le-leb _ _ l, le-ltb _ _ m)
+      plausible-message i = simp (← e, ne-eqb _ _ g, le-leb _ _ l, lt-ltb _ _ m, ne-eqb _ _ i, and-true)
 
-      module _ (m : us < 1000000) where
-        pub plausible-message : (k ≡ 5 → ⊥) → not (eqb (asSize u) 0) ≡ plausible k u n us
-        unfolding plausible
-        plausible-message i = simp (← e, ne-eqb _ _ g, le-leb _ _ l, lt-ltb _ _ m, ne-eqb _ _ i)
-
-        pub plausible-legacy : k ≡ 5 → {x : ℕ} → x ≡ legacy u n → eqb x 0 ≡ plausible k u n us
-        unfolding plausible
-        plausible-legacy i q = simp (← e, ne-eqb _ _ g, le-leb _ _ l, lt-ltb _ _ m, eq-eqb _ _ i, q)
+      pub plausible-legacy : k ≡ 5 → {x : ℕ} → x ≡ legacy u n → eqb x 0 ≡ plausible k u n us
+      unfolding plausible
+      plausible-legacy i {x} q =
+          by-test (eqb x 0) refl ∙ simp (← e, ne-eqb _ _ g, le-leb _ _ l, lt-ltb _ _ m, eq-eqb _ _ i, q, and-true)
+        where
+          -- 0 is not 6
+          by-test : (t : Bool) → eqb x 0 ≡ t → t ≡ (not (eqb x 6) && t)
+          by-test true t = let z : x ≡ 0 = eqb-true _ _ t in simp (ne-eqb x 6 (λ y. omega arith))
+          by-test false t = simp and-false
 
 -- whether a header may begin a candidate
 abbrev begins : Heading → Bool
@@ -175,7 +178,7 @@ module _ (s : List ℕ) (p : ℕ) where
         by-number true t =
             let h : beAt (drop p s) 8 4 ≤ over (drop p s) header .stored + 4 = header-stored (drop p s) (eqb-true _ _ t) in
             let d : beAt (drop p s) 8 4 ≡ beAt s (p + 8) 4 = be-drop s p 8 4 in
-            plausible-most _ _ _ _ (omega arith)
+            sym (plausible-long _ _ _ _ (omega arith))
         by-number false t = refl
 
     -- the same by the length's first two octets

@@ -8,7 +8,7 @@ use Rattle.walk.specs.Step.{Answer, end, Stepped, at, freshWalk, finishedAt, st
 use Rattle.walk.specs.Promises.{answers, Run, heard, Promised, Last}
 use Rattle.walk.specs.declared.Walk.{Walk}
 use Rattle.walk.proofs.Calls.{call}
-use Rattle.walk.proofs.Demand3.{demand-3, run-promises, last-stays}
+use Rattle.walk.proofs.Whole.{answers-promise, run-promises, last-stays}
 use Rattle.walk.proofs.Determined as determined
 use Rattle.walk_judge.specs.Record.{judgeAt}
 use Rattle.walk_candidate.specs.Candidate.{candidateAt}
@@ -22,7 +22,7 @@ use Rattle.walk_step.specs.declared.WalkAnswer.{WalkAnswer}
 -- refused record's own end or at the least offset, and the scan comes only where the own end does not serve.
 pub walk-promises : (s : List ℕ) (window k m : ℕ) → 2 * (length s / 12) + 2 ≤ m
     → Promised judgeAt candidateAt s window k (answers (call judgeAt candidateAt s window k) m freshWalk)
-walk-promises = demand-3 judgeAt candidateAt sound
+walk-promises = answers-promise judgeAt candidateAt sound
 
 -- THEOREM. No other list of answers promises that.
 pub promised-unique : (s : List ℕ) (window k : ℕ) (l m : List Answer) → Promised judgeAt candidateAt s window k l

@@ -16,7 +16,7 @@ use Rattle.walk.specs.Step.{Stepped, at, handed, moved, freshWalk, step}
 use Rattle.walk.specs.Promises.{Run, heard, Records, Promised}
 use Rattle.walk.specs.declared.Walk.{Walk}
 use Rattle.walk.proofs.Calls.{call, call-fit}
-use Rattle.walk.proofs.Demand3.{call-within}
+use Rattle.walk.proofs.Whole.{call-within}
 use Rattle.walk_judge.specs.Record.{judgeAt}
 use Rattle.walk_candidate.specs.Candidate.{candidateAt}
 use Rattle.walk_candidate.proofs.Candidates.{sound}

@@ -1,4 +1,4 @@
--- Demand 3, for every judgement that is sound.
+-- What a whole walk promises, for every judgement that is sound.
 use Prim.Native.Nat.{ℕ, zero, suc, _+_, _-_, _*_, _/_, _<_, _≤_}
 use mathlib.Core.Path.{_≡_, refl, sym, _∙_, ap}
 use mathlib.Core.Bool.{Bool, true, false, cond}
@@ -219,10 +219,10 @@ apart n (refused x a w r ∷ l) h = apart n l h
 
 module _ (judge : ℕ → Ask Judged) (candidate : ℕ → Ask Candidate) where
   -- THEOREM. The first 2 * (n / 12) + 2 calls of a fresh walk over any n octets have among them the last answer, and the answers
-  -- of so many calls, or of more, promise all that demand 3 asks.
-  pub demand-3 : Sound judge candidate → (s : List ℕ) (window k m : ℕ) → 2 * (length s / 12) + 2 ≤ m
+  -- of so many calls, or of more, promise all that `Promised` asks.
+  pub answers-promise : Sound judge candidate → (s : List ℕ) (window k m : ℕ) → 2 * (length s / 12) + 2 ≤ m
       → Promised judge candidate s window k (answers (call judge candidate s window k) m freshWalk)
-  demand-3 sound s window k m b =
+  answers-promise sound s window k m b =
       let g = enough judge candidate sound s window k m .any 0 (omega arith) (omega arith) in
       let l : List Answer = answers (call judge candidate s window k) m freshWalk in
       record {
@@ -243,7 +243,7 @@ module _ (judge : ℕ → Ask Judged) (candidate : ℕ → Ask Candidate) where
   pub run-promises : Sound judge candidate → (s : List ℕ) (window k : ℕ) (l : List Stepped) → 2 * (length s / 12) + 2 ≤ length l
       → Run (call judge candidate s window k) freshWalk l → Promised judge candidate s window k (heard l)
   run-promises sound s window k l b r =
-      rw (heard-answers (call judge candidate s window k) l freshWalk r) (demand-3 sound s window k (length l) b)
+      rw (heard-answers (call judge candidate s window k) l freshWalk r) (answers-promise sound s window k (length l) b)
 
   module _ (s : List ℕ) (window k : ℕ) where
     by-last : (p a : ℕ) (x : Stepped) → Call judge candidate s window k p x → p ≤ length s → Last a (x .answer)
