@@ -41,14 +41,15 @@ module _ (s : List ℕ) (n at : ℕ) where
         pub goes-on : (f : Framing) → fit f ≡ over s (judgeAt p) → Goes (m + 1) (f .end)
         goes-on f q =
             let e : suc m ≡ m + 1 = omega arith in
-            g ∙ rw left (aligned-fit judgeAt s (n - (m + 1)) m p u {f = f} (sym q)) ∙ ap (λ (x : ℕ). over s (aligned judgeAt (n - (m + 1)) x (f .end))) e
+            g ∙ rw left (aligned-fit judgeAt s (n - (m + 1)) m p u {f = f} (sym q) ∙ rw e)
 
 -- the asked number and what is asked for after the first
 module _ {a : ℕ} (k : ℕ) (e : a ≡ asked k) where
   pub one-less : a - 1 ≡ k - 1
   one-less = omega arith
 
-  pub asked-more : (s : List ℕ) (p window : ℕ) {f : Found} → f ≡ over s (scan candidateAt (a - 1) (suc p) window) → f ≡ over s (scan candidateAt (k - 1) (suc p) window)
+  pub asked-more : (s : List ℕ) (p window : ℕ) {f : Found} → f ≡ over s (scan candidateAt (a - 1) (suc p) window)
+      → f ≡ over s (scan candidateAt (k - 1) (suc p) window)
   asked-more s p window q = q ∙ ap (λ (n : ℕ). over s (scan candidateAt n (suc p) window)) one-less
 
   pub asked-found : (s : List ℕ) (p window r : ℕ) {o v : ℕ} → found o v ≡ over s (scan candidateAt (a - 1) (suc p) window)

@@ -35,7 +35,9 @@ loop-less : tie.Need-loop-less Inv-loop μ-loop
 loop-less c = omega arith
 
 loop-again : tie.Need-loop-again Inv-loop μ-loop
-loop-again c = (omega arith, omega arith, passed-one _ _ _ _ (c .before .before .before .loop .inv .2) (c .before .may-begin .ensures (c .if1 .left)))
+loop-again c =
+    let at-loop = c .before .before .before in
+    (omega arith, omega arith, passed-one _ _ _ _ (at-loop .loop .inv .2) (c .before .may-begin .ensures (c .if1 .left)))
 
 returns-2 : tie.Need-returns-2 Inv-loop μ-loop
 returns-2 c = c .before .loop .inv
