@@ -40,11 +40,11 @@ module _ (judge : ℕ → Ask Judged) (candidate : ℕ → Ask Candidate) (sound
 
     first-fit : (m p : ℕ) (f : Framing) → p < length s → over s (judge p) ≡ fit f → from (suc m) p ≡ handed p f ∷ from m (f .end)
     unfolding answers upTo
-    first-fit m p f l q = simp (call-fit judge candidate s window k p f l q)
+    first-fit m p f l q = rw (← call-fit judge candidate s window k (at p) (omega arith) refl (λ z. omega arith) f (sym q))
 
     first-end : (m p : ℕ) → p ≡ length s → from (suc m) p ≡ end p ∷ []
     unfolding answers upTo
-    first-end m p e = simp (call-end judge candidate s window k p e)
+    first-end m p e = rw (← call-end judge candidate s window k (at p) (omega arith) refl (sym e))
 
     -- what the answers from p on promise
     record Good (p : ℕ) (l : List Answer) : Type 0 where
@@ -195,8 +195,7 @@ module _ (judge : ℕ → Ask Judged) (candidate : ℕ → Ask Candidate) (sound
       where
         by-mark : (f : Bool) → w .finished ≡ f → call judge candidate s window k w .walk .position ≤ length s
         by-mark true f =
-            let e : w ≡ finishedAt (w .position) = ap {B = Walk} (λ (b : Bool). record { position = w .position; finished = b }) f in
-            rw (e, call-finished judge candidate s window k (w .position) l) l
+            rw (← call-finished judge candidate s window k w l f) l
         by-mark false f =
             let e : w ≡ at (w .position) = ap {B = Walk} (λ (b : Bool). record { position = w .position; finished = b }) f in
             rw e (by-within (w .position) _ l (called judge candidate s window k (w .position) l))
@@ -248,11 +247,12 @@ module _ (judge : ℕ → Ask Judged) (candidate : ℕ → Ask Candidate) where
   module _ (s : List ℕ) (window k : ℕ) where
     by-last : (p a : ℕ) (x : Stepped) → Call judge candidate s window k p x → p ≤ length s → Last a (x .answer)
         → (x .walk ≡ finishedAt a) × (call judge candidate s window k (finishedAt a) ≡ stopped a (end a))
-    by-last p a x (ends q) l over-last = (refl, call-finished judge candidate s window k p l)
-    by-last p a x (full r u i q t) l shut = (refl, call-finished judge candidate s window k p l)
+    by-last p a x (ends q) l over-last = (refl, sym (call-finished judge candidate s window k (finishedAt p) l refl))
+    by-last p a x (full r u i q t) l shut = (refl, sym (call-finished judge candidate s window k (finishedAt p) l refl))
 
     -- THEOREM. Where a call gives the last answer, the walk is finished in its place, and every call after it answers the end
     -- with the same position and leaves the walk as it is.
     pub last-stays : (p a : ℕ) → p ≤ length s → Last a (call judge candidate s window k (at p) .answer)
-        → (call judge candidate s window k (at p) .walk ≡ finishedAt a) × (call judge candidate s window k (finishedAt a) ≡ stopped a (end a))
+        → (call judge candidate s window k (at p) .walk ≡ finishedAt a)
+        × (call judge candidate s window k (finishedAt a) ≡ stopped a (end a))
     last-stays p a l h = by-last p a _ (called judge candidate s window k p l) l h

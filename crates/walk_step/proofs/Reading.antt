@@ -8,7 +8,8 @@ use Rattle.rules.specs.Ask.{over}
 use Rattle.header.specs.Frame.{Framing}
 use Rattle.walk.specs.Judged.{Judged, fit, off, cut}
 use Rattle.walk.specs.Step.{moved, gap, asked, Tried, passed, failed, Found, found, aligned, scan, scanned}
-use Rattle.walk.proofs.Turns.{aligned-enough, aligned-end, aligned-fit, aligned-off, aligned-cut, scanned-found}
+use Rattle.walk.proofs.Turns.{aligned-enough, aligned-end, aligned-fit, aligned-off, aligned-cut}
+use Rattle.walk.proofs.Calls.{scanned-found}
 use Rattle.walk_judge.specs.Record.{judgeAt}
 use Rattle.walk_candidate.specs.Candidate.{candidateAt}
 
@@ -55,7 +56,7 @@ module _ {a : ℕ} (k : ℕ) (e : a ≡ asked k) where
   pub asked-found : (s : List ℕ) (p window r : ℕ) {o v : ℕ} → found o v ≡ over s (scan candidateAt (a - 1) (suc p) window)
       → moved o (gap p o r v a) ≡ over s (scanned judgeAt candidateAt p window k r)
   asked-found s p window r {o} {v} q =
-      ap (λ (n : ℕ). moved o (gap p o r v n)) e ∙ scanned-found judgeAt candidateAt s p window k r (asked-more s p window q)
+      ap (λ (n : ℕ). moved o (gap p o r v n)) e ∙ scanned-found judgeAt candidateAt s window k p r (asked-more s p window q)
 
   pub asked-own : (s : List ℕ) (at : ℕ) {t : Tried} → t ≡ over s (aligned judgeAt a 0 at) → t ≡ over s (aligned judgeAt (asked k) 0 at)
   asked-own s at q = q ∙ ap (λ (n : ℕ). over s (aligned judgeAt n 0 at)) e

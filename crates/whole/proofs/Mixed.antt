@@ -146,10 +146,11 @@ module _ (s : List ℕ) (window k : ℕ) where
       by-judged (fit f) q ih =
           let b = sound .fits s p f q in
           let t = ih (f .end) (b .1) in
+          let inside : p < length s = omega (arith, b .0, b .1) in
           let x : Stepped = moved (f .end) (handed p f) in
           record {
             steps = x ∷ t .steps;
-            runs = (sym (call-fit judgeAt candidateAt s window k p f (omega (arith, b .0, b .1)) q), t .runs);
+            runs = (call-fit judgeAt candidateAt s window k (at p) l refl (λ z. omega arith) f (sym q), t .runs);
             all = t .all;
             values = rw (t .values);
             count = rw (t .count);

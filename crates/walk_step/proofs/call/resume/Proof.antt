@@ -3,7 +3,7 @@ use Rattle.walk_judge.specs.Record.{judgeAt}
 use mathlib.Core.Path.{sym, _∙_, ap}
 use Rattle.walk_step.specs.Answers.{tried}
 use Rattle.walk_step.proofs.Reading.{asked-own}
-use Rattle.walk.proofs.Turns.{own-passed, own-failed}
+use Rattle.walk.proofs.Calls.{own-passed, own-failed}
 use borrow.Author.Needs.{needs}
 use Rattle.walk_step.proofs.call.resume.Statement.{statement}
 use Rattle.walk_step.proofs.call.resume.Tie as tie

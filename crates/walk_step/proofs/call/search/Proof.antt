@@ -1,5 +1,5 @@
 use Rattle.walk_step.proofs.Reading.{asked-more, asked-found}
-use Rattle.walk.proofs.Turns.{scanned-nowhere}
+use Rattle.walk.proofs.Calls.{scanned-nowhere}
 use Rattle.walk_candidate.specs.Candidate.{candidateAt}
 use Rattle.walk_judge.specs.Record.{judgeAt}
 use mathlib.Core.Path.{sym, _∙_, ap}

@@ -1,5 +1,5 @@
 use mathlib.Core.Path.{_∙_}
-use Rattle.walk.proofs.Turns.{unfound-none, unfound-near, unfound-within, unfound-full}
+use Rattle.walk.proofs.Calls.{unfound-none, unfound-near, unfound-within, unfound-full}
 use borrow.Author.Needs.{needs}
 use Rattle.walk_step.proofs.call.unfound.Statement.{statement}
 use Rattle.walk_step.proofs.call.unfound.Tie as tie
