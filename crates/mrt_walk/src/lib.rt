@@ -26,7 +26,8 @@ pub extern "C" fn mrt_next(
     asked: u8,
     out: &mut [u64],
 ) -> u32
-    ensures answer { λ r. ⌜ (now (walk .exit), (now (out .exit), r)) ≡ nextOut (now (s .entry)) (now (walk .entry)) window asked (now (out .entry)) ⌝ }
+    ensures answer { λ r. ⌜ (now (walk .exit), (now (out .exit), r))
+        ≡ nextOut (now (s .entry)) (now (walk .entry)) window asked (now (out .entry)) ⌝ }
 {
     if walk.len() < 2 {
         return 8;
@@ -62,7 +63,9 @@ pub extern "C" fn mrt_next(
 // A step of the walk, whatever its answer, and the walk moved.
 fn take_step(s: &[u8], walk: &mut [u64], window: usize, asked: u8, out: &mut [u64]) -> u32
     requires { ⌜ 2 ≤ length (now walk) ⌝ }
-    ensures { λ r. ⌜ (now (walk .exit), (now (out .exit), r)) ≡ steppedOut (now (walk .entry)) (now (out .entry)) (over (now (s .entry)) (step judgeAt candidateAt (walkIn (now (walk .entry))) window asked)) ⌝ }
+    ensures { λ r. ⌜ (now (walk .exit), (now (out .exit), r))
+        ≡ steppedOut (now (walk .entry)) (now (out .entry))
+        (over (now (s .entry)) (step judgeAt candidateAt (walkIn (now (walk .entry))) window asked)) ⌝ }
 {
     let before = Walk {
         position: walk[0] as usize,

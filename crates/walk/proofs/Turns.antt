@@ -101,7 +101,8 @@ module _ (candidate : ℕ → Ask Candidate) (s : List ℕ) where
       row-other (suc i) f v p l h q x d = sym (h ∙ row-parts n i f v p l q (λ y. d (y ∙ sym (x ∙ later i g f))))
 
       pub row-turned : (i f v p : ℕ) → i ≤ n → Stood i f v p → over s (candidate p) ≡ stands g w e
-          → {f' v' : ℕ} → f' ≡ cond (eqb i 0) g f → v' ≡ cond (eqb i 0) w v → g ≡ f' → over s (row candidate n o) ≡ over s (rowFrom candidate (n - i) f' v' e)
+          → {f' v' : ℕ} → f' ≡ cond (eqb i 0) g f → v' ≡ cond (eqb i 0) w v → g ≡ f'
+          → over s (row candidate n o) ≡ over s (rowFrom candidate (n - i) f' v' e)
       unfolding Stood
       row-turned zero f v p l h q x y d = rw (x, y, sub-zero) (row-first n o (rw h at q))
       row-turned (suc i) f v p l h q x y d = rw (x ∙ later i g f, y ∙ later i w v) (h ∙ row-goes n i f v p l q (d ∙ x ∙ later i g f))

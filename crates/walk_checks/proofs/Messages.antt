@@ -18,7 +18,10 @@ message-rest t a b c d = simp (ne-eqb _ _ a, ne-eqb _ _ b, ne-eqb _ _ c, ne-eqb 
 
 -- the marker, four octets at a time
 module _ (s : List ℕ) (o : Octets s) where
-  quarters : ones s 0 16 ≡ (eqb (beAt s 0 4) 4294967295 && (eqb (beAt s 4 4) 4294967295 && (eqb (beAt s 8 4) 4294967295 && eqb (beAt s 12 4) 4294967295)))
+  abbrev quarter : ℕ → Bool
+  quarter at = eqb (beAt s at 4) 4294967295
+
+  quarters : ones s 0 16 ≡ (quarter 0 && (quarter 4 && (quarter 8 && quarter 12)))
   quarters =
       sym (ones-join s 0 4 12)
       ∙ ap (λ (b : Bool). ones s 0 4 && b) (sym (ones-join s 4 4 8))

@@ -43,7 +43,8 @@ module _ (s : List ℕ) (at : ℕ) where
       judged-framed : ruled f c ≡ over s (judgeAt at)
       unfolding verdict over
       judged-framed =
-          rw (judge-left s at (framed-within s at f e z), judge-over (drop at s) at, ← framed-left s at f e z, eq-eqb (f .head .number) 0 z, ← lent, ← q)
+          let left = judge-left s at (framed-within s at f e z) in
+          rw (left, judge-over (drop at s) at, ← framed-left s at f e z, eq-eqb (f .head .number) 0 z, ← lent, ← q)
 
       pub judged-fit : c ≡ 0 → fit f ≡ over s (judgeAt at)
       judged-fit y = rw (← judged-framed, eq-eqb c 0 y)

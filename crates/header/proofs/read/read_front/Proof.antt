@@ -56,10 +56,9 @@ read-requires c κs = search needs
 
 returns-3 : tie.Need-returns-3
 returns-3 c =
-    let asked-one = c .before .before in
-    let known-one = asked-one .before in
     ap values (c .read .ensures)
-    ∙ header-plain (fields (known-one .before)) (the-known known-one) (sym (asked-one .is-timed .ensures) ∙ not-true _ (c .before .if3 .taken))
+    ∙ header-plain (fields (c .before .before .before .before)) (the-known (c .before .before .before))
+    (sym (c .before .before .is-timed .ensures) ∙ not-true _ (c .before .if3 .taken))
 
 returns-4 : tie.Need-returns-4
 returns-4 c =

@@ -110,7 +110,8 @@ distance-again-2 c =
       at-if1 .before .before .distance .inv .1,
       scan-turned candidateAt _ _ _ _ _ _ refl (looks at-if1)
           (sym (row-other candidateAt _ _ _ _ _ _ _ (at-loop .loop .inv .0) (at-loop .loop .inv .1)
-          (sym (at-candidate .candidate-at .ensures) ∙ ap candidacy (at-other .other .given .1)) (at-first .first .ensures) (c .if2 .taken))),
+          (sym (at-candidate .candidate-at .ensures) ∙ ap candidacy (at-other .other .given .1))
+          (at-first .first .ensures) (c .if2 .taken))),
     )
 
 add-i : tie.Need-add-i Inv-loop μ-loop Inv-distance μ-distance

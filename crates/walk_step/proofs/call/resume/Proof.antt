@@ -31,7 +31,8 @@ returns c =
     let at-try-own-end = c .before .before .before in
     let at-asked = at-try-own-end .before in
     c .search .ensures ∙ own-failed judgeAt candidateAt _ _ _ _ _ _
-    (asked-own _ (at-asked .at-least-one .ensures) _ _ (sym (ap tried (c .before .enum-told .given .1)) ∙ at-try-own-end .try-own-end .ensures))
+    (asked-own _ (at-asked .at-least-one .ensures) _ _
+    (sym (ap tried (c .before .enum-told .given .1)) ∙ at-try-own-end .try-own-end .ensures))
 
 returns-2 : tie.Need-returns-2
 returns-2 c =
@@ -39,7 +40,8 @@ returns-2 c =
     let at-try-own-end = at-confirmed .before .before in
     let at-asked = at-try-own-end .before in
     c .go-on .ensures ∙ own-passed judgeAt candidateAt _ _ _ _ _ _
-    (asked-own _ (at-asked .at-least-one .ensures) _ _ (sym (ap tried (at-confirmed .confirmed .given .1)) ∙ at-try-own-end .try-own-end .ensures))
+    (asked-own _ (at-asked .at-least-one .ensures) _ _
+    (sym (ap tried (at-confirmed .confirmed .given .1)) ∙ at-try-own-end .try-own-end .ensures))
 
 pub resume-spec : {M : Type 1} → statement M
 resume-spec =
