@@ -20,6 +20,11 @@ use Rattle.walk_judge.specs.Record.{verdict, judge, judgeAt, judgementAt}
 use Rattle.walk_candidate.specs.Candidate.{family, evidence, plausible, standing, headed, candidate, candidateAt}
 use Rattle.cases.specs.Cases.{Hold, rows}
 
+-- a row holds, and those after it
+infixr 30 _&_
+abbrev _&_ : {A B : Type 0} → A → B → A × B
+a & b = (a, b)
+
 pub table : Hold rows
 unfolding rows beAt bytesOf ones over past _>>=_ known timed size header headerAt framed frame wide addressSize asSize peerSize
     endAt nameLength peerCount firstPeer lastEnd checkPeers ipv4 ipv6 pathed carried mostBits pathSize prefixSize bitsOf countAt
@@ -28,4 +33,5 @@ unfolding rows beAt bytesOf ones over past _>>=_ known timed size header headerA
     resume ownEnd judged going step tableDump check verdict judge judgeAt judgementAt family evidence plausible standing headed
     candidate candidateAt
 table =
-    (refl, refl, refl, refl, refl, refl, refl, refl, refl, refl, refl, refl, refl, refl, refl, refl, refl, refl, refl, refl, tt)
+    refl & refl & refl & refl & refl & refl & refl & refl & refl & refl & refl
+    & refl & refl & refl & refl & refl & refl & refl & refl & refl & tt

@@ -11,7 +11,7 @@ use Rattle.rules.specs.Ask.{Ask, over}
 use Rattle.rules.proofs.Asked.{over-bind}
 use Rattle.header.specs.Frame.{Framing}
 use Rattle.walk.specs.Judged.{Judged, fit, off, cut, Candidate}
-use Rattle.walk.specs.Step.{handed, gap, end, refused, Stepped, at, moved, finishedAt, stopped, asked}
+use Rattle.walk.specs.Step.{handed, gap, end, refused, Stepped, at, moved, stopped, asked}
 use Rattle.walk.specs.Step.{Tried, passed, failed, Found, found, nowhere, aligned, scan}
 use Rattle.walk.specs.Step.{unfound, leave, scanned, resume, ownEnd, judged, going, step}
 use Rattle.walk.specs.declared.Walk.{Walk}

@@ -1,12 +1,12 @@
 -- Rows of candidates, and the least offset where one stands.
 use Prim.Native.Nat.{ℕ, zero, suc, _+_, _<_, _≤_}
-use mathlib.Core.Path.{_≡_, refl, sym, _∙_}
+use mathlib.Core.Path.{_≡_, refl, _∙_}
 use mathlib.Core.Bool.{Bool, true, false, cond}
 use mathlib.Core.List.{List}
 use native.Mathlib.Omega.{arith}
 use lib.Dec.{eqb}
 use borrow.Author.Tests.{eq-eqb, eqb-true, eqb-false}
-use Rattle.rules.specs.Ask.{Ask, done, _>>=_, over}
+use Rattle.rules.specs.Ask.{Ask, done, over}
 use Rattle.rules.proofs.Asked.{over-bind}
 use Rattle.walk.specs.Judged.{Candidate, stands, fails}
 use Rattle.walk.specs.Step.{Row, whole, broken, Found, found, nowhere, whenOf, whenWhole, rowFrom, rowOn, row, scan}

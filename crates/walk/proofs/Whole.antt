@@ -1,25 +1,22 @@
 -- What a whole walk promises, for every judgement that is sound.
 use Prim.Native.Nat.{ℕ, zero, suc, _+_, _-_, _*_, _/_, _<_, _≤_}
 use mathlib.Core.Path.{_≡_, refl, sym, _∙_, ap}
-use mathlib.Core.Bool.{Bool, true, false, cond}
+use mathlib.Core.Bool.{Bool, true, false}
 use mathlib.Core.List.{List, [], _∷_}
 use native.Mathlib.Omega.{arith}
 use lib.ListN.{length}
-use lib.Dec.{leb}
-use borrow.Author.Tests.{leb-true, leb-false}
-use Rattle.rules.specs.Ask.{Ask, done, _>>=_, over}
-use Rattle.rules.proofs.Asked.{over-bind}
+use Rattle.rules.specs.Ask.{Ask, over}
 use Rattle.header.specs.Frame.{Framing}
-use Rattle.walk.specs.Judged.{Judged, fit, off, cut, Candidate}
+use Rattle.walk.specs.Judged.{Judged, fit, off, Candidate}
 use Rattle.walk.specs.Step.{Answer, handed, gap, end, refused, Stepped, at, freshWalk, finishedAt, stopped, asked, nowhere, scan}
 use Rattle.walk.specs.Promises.{upTo, answers, Run, heard, Covers, Passed, Records, Follows, Confirmed, NoGap, Apart}
 use Rattle.walk.specs.Promises.{RunTo, Confirms, Off, Scans, unconfirmed}
 use Rattle.walk.specs.Promises.{unframed as unframed-at, RowOf, Evident, NoRow, own as own-end, least, none as none-left}
-use Rattle.walk.specs.Promises.{Shut, Sought, Promised}
+use Rattle.walk.specs.Promises.{Sought, Promised}
 use Rattle.walk.specs.Promises.{Last, over as over-last, shut}
 use Rattle.walk.specs.declared.Walk.{Walk}
 use Rattle.walk.proofs.Sound.{Sound}
-use Rattle.walk.proofs.Rows.{row-at, at-row, no-row, Least, scan-found, scan-nowhere}
+use Rattle.walk.proofs.Rows.{row-at, at-row, no-row, scan-found, scan-nowhere}
 use Rattle.walk.proofs.Tries.{tried-confirms, tried-nothing}
 use Rattle.walk.proofs.Calls.{call, Why, unframed, untried, Call, ends, fits, own, takes, none, full, called}
 use Rattle.walk.proofs.Calls.{call-end, call-fit, call-finished}

@@ -1,5 +1,5 @@
 -- The largest bodies that pass the checks of types 5, 16 and 17.
-use Prim.Native.Nat.{ℕ, zero, suc, _+_, _-_, _*_, _≤_}
+use Prim.Native.Nat.{ℕ, zero, suc, _+_, _*_, _≤_}
 use mathlib.Core.Path.{_≡_, refl}
 use mathlib.Core.Bool.{Bool, true, false, _&&_, not, cond, and-eq-true-iff}
 use mathlib.Core.List.{List, [], _∷_, _++_}
@@ -8,7 +8,7 @@ use lib.ListN.{length, getD, drop, length-drop, replicate}
 use lib.Dec.{eqb, leb, ltb}
 use borrow.Author.Tests.{leb-true, eqb-true}
 use Rattle.octets.specs.Octets.{beAt, ones, Octets}
-use Rattle.walk_checks.specs.Within.{from-to, none, within}
+use Rattle.walk_checks.specs.Within.{within}
 use Rattle.walk_checks.specs.Legacy.{legacyBounds, legacy}
 use Rattle.walk_checks.specs.Message.{messageBounds, message}
 use Rattle.walk_checks.specs.declared.Bounds.{Bounds}

@@ -1,6 +1,6 @@
 -- The marker as four numbers, and the cases of a message.
-use Prim.Native.Nat.{ℕ, _+_, _<_, _≤_}
-use mathlib.Core.Path.{_≡_, refl, sym, _∙_, ap}
+use Prim.Native.Nat.{ℕ, _<_, _≤_}
+use mathlib.Core.Path.{_≡_, sym, _∙_, ap}
 use mathlib.Core.Bool.{Bool, true, false, _&&_, and-false}
 use mathlib.Core.List.{List}
 use lib.ListN.{length, getD}
@@ -8,7 +8,7 @@ use lib.Dec.{eqb, leb}
 use borrow.Author.Tests.{le-leb, lt-leb, eq-eqb, ne-eqb}
 use Rattle.octets.specs.Octets.{beAt, ones, Octets}
 use Rattle.octets.proofs.Ones.{ones-join, ones-be}
-use Rattle.walk_checks.specs.Within.{none, within}
+use Rattle.walk_checks.specs.Within.{none}
 use Rattle.walk_checks.specs.Message.{messageBounds, message}
 use Rattle.walk_checks.specs.declared.Bounds.{Bounds}
 

@@ -1,13 +1,13 @@
 -- The judgement of one record in each of its cases.
-use Prim.Native.Nat.{ℕ, _+_, _-_, _<_, _≤_}
-use mathlib.Core.Path.{_≡_, refl, _∙_}
+use Prim.Native.Nat.{ℕ, _-_, _<_, _≤_}
+use mathlib.Core.Path.{_≡_, _∙_}
 use mathlib.Core.List.{List}
 use native.Mathlib.Omega.{arith}
 use lib.ListN.{length, drop}
 use lib.Seq.{drop-drop}
 use borrow.Author.Tests.{lt-ltb, le-ltb, eq-eqb, ne-eqb}
 use Rattle.octets.specs.Octets.{part}
-use Rattle.rules.specs.Ask.{over, _>>=_}
+use Rattle.rules.specs.Ask.{over}
 use Rattle.rules.proofs.Asked.{over-bind}
 use Rattle.header.specs.Kind.{size}
 use Rattle.header.specs.Frame.{Framing, unframed, frame, frameAt}

@@ -1,8 +1,8 @@
 -- Two answers that say the same are equal: the promises allow one result.
 use Prim.Native.Nat.{ℕ}
-use mathlib.Core.Path.{_≡_, refl, sym, ap}
+use mathlib.Core.Path.{_≡_, sym, ap}
 use native.Mathlib.Omega.{arith}
-use Rattle.answer.specs.Refusal.{numberOf, outcomeNumber}
+use Rattle.answer.specs.Refusal.{numberOf}
 use Rattle.answer.proofs.Refusals.{number-not-zero, number-unique}
 use Rattle.header.specs.Frame.{Framing, unframed}
 use Rattle.header.specs.Back.{headerOf}

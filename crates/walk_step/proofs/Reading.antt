@@ -1,12 +1,12 @@
 -- What code has found, as the rules of the walk say it.
 use Prim.Native.Nat.{ℕ, suc, _+_, _-_, _<_, _≤_}
-use mathlib.Core.Path.{_≡_, refl, sym, _∙_, ap}
+use mathlib.Core.Path.{_≡_, sym, _∙_, ap}
 use mathlib.Core.List.{List}
 use native.Mathlib.Omega.{arith}
 use lib.ListN.{length}
 use Rattle.rules.specs.Ask.{over}
 use Rattle.header.specs.Frame.{Framing}
-use Rattle.walk.specs.Judged.{Judged, fit, off, cut}
+use Rattle.walk.specs.Judged.{fit, off, cut}
 use Rattle.walk.specs.Step.{moved, gap, asked, Tried, passed, failed, Found, found, aligned, scan, scanned}
 use Rattle.walk.proofs.Turns.{aligned-enough, aligned-end, aligned-fit, aligned-off, aligned-cut}
 use Rattle.walk.proofs.Calls.{scanned-found}

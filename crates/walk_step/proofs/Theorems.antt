@@ -2,7 +2,6 @@
 use Prim.Native.Nat.{ℕ, suc, _+_, _*_, _/_, _≤_}
 use mathlib.Core.Path.{_≡_, refl, ap}
 use mathlib.Core.List.{List, [], _∷_, map}
-use native.Mathlib.Omega.{arith}
 use lib.ListN.{length}
 use Rattle.walk.specs.Step.{Answer, end, Stepped, at, freshWalk, finishedAt, stopped}
 use Rattle.walk.specs.Promises.{answers, Run, heard, Promised, Last}

@@ -1,11 +1,10 @@
 -- Two answers that say the same are equal: the promises allow one result.
 use Prim.Native.Nat.{ℕ}
-use mathlib.Core.Path.{_≡_, refl, sym, _∙_, ap}
+use mathlib.Core.Path.{_≡_, sym, _∙_, ap}
 use native.Mathlib.Omega.{arith}
 use Rattle.answer.specs.Refusal.{numberOf}
 use Rattle.answer.specs.declared.Refusal.{Refusal}
 use Rattle.answer.proofs.Refusals.{number-not-zero, number-unique}
-use Rattle.header.specs.Read.{accepted}
 use Rattle.header.specs.Frame.{Framing, unframed}
 use Rattle.header.specs.Back.{headerOf}
 use Rattle.walk.specs.Step.{Answer, handed, gap, end, refused}

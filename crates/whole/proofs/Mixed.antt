@@ -10,7 +10,6 @@ use lib.Dec.{leb, eqb}
 use borrow.Author.Tests.{leb-true, leb-false, le-leb, lt-leb}
 use Rattle.octets.specs.Octets.{patch}
 use Rattle.rules.specs.Ask.{over}
-use Rattle.header.specs.Frame.{Framing}
 use Rattle.walk.specs.Judged.{Judged, fit, off, cut}
 use Rattle.walk.specs.Step.{Stepped, at, handed, moved, freshWalk, step}
 use Rattle.walk.specs.Promises.{Run, heard, Records, Promised}
@@ -22,10 +21,10 @@ use Rattle.walk_candidate.specs.Candidate.{candidateAt}
 use Rattle.walk_candidate.proofs.Candidates.{sound}
 use Rattle.walk_step.proofs.Theorems.{calls-promise}
 use Rattle.mrt_lent.specs.Export.{mark}
-use Rattle.mrt_lent.specs.Rows.{Turn, row, none as no-turn, Rows, rowsOn, rowsFrom, rowsHanded, noneHanded}
+use Rattle.mrt_lent.specs.Rows.{Rows, rowsOn, rowsFrom, rowsHanded, noneHanded}
 use Rattle.mrt_lent.specs.declared.Handed.{Handed}
 use Rattle.mrt_lent.proofs.Walks.{walk-full, walk-served}
-use Rattle.mrt_walk.specs.Next.{walkIn, walkValues, answerOut, steppedOut, nextOut}
+use Rattle.mrt_walk.specs.Next.{walkIn, walkValues, steppedOut, nextOut}
 use Rattle.mrt_records.specs.Records.{recordTurn, recordAt, recordsHanded, recordsOut}
 use Rattle.whole.specs.Made.{Holds, Made, one, many, Calls, answersOf, valuesOf, Shows, none, next, records}
 use Rattle.whole.specs.Made.{full-next, full-records, answered, Nexts}

@@ -1,9 +1,7 @@
 use Prim.Native.Nat.{_-_, _≤_}
-use mathlib.Core.Path.{_≡_}
 use native.Mathlib.Omega.{arith}
 use Rattle.walk_scan.specs.Sight.{Passed}
 use Rattle.walk_scan.proofs.Scans.{passed-none, passed-one}
-use borrow.Author.Needs.{needs}
 use Rattle.walk_scan.proofs.sight.pass_each.Statement.{statement}
 use Rattle.walk_scan.proofs.sight.pass_each.Tie as tie
 

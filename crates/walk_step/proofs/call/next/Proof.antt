@@ -51,7 +51,7 @@ use Rattle.walk.proofs.Walk as T
 use Rattle.walk.proofs.Walk.Laws as T′
 use Rattle.walk_judge.specs.Record.{judgeAt}
 use Rattle.walk_candidate.specs.Candidate.{candidateAt}
-use Rattle.walk_step.specs.Answers.{said as says-in-numbers, stepped}
+use Rattle.walk_step.specs.Answers.{stepped}
 use Rattle.walk_step.specs.declared.WalkAnswer.{WalkAnswer}
 use Rattle.walk_step.specs.declared.Stepped.{Stepped}
 use Rattle.walk_step.proofs.WalkAnswer as N
