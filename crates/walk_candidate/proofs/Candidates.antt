@@ -64,9 +64,6 @@ module _ {j : Judged} where
   unfolding standing
   standing-fit e p q = rw (← e, p, q)
 
-positive : (n : ℕ) → (n ≡ 0 → ⊥) → 0 < n
-positive n h = omega arith
-
 -- what the header alone decides
 module _ (k u n us : ℕ) where
   -- a length that no candidate has
@@ -187,7 +184,7 @@ module _ (s : List ℕ) (p : ℕ) where
 
     -- the same by the length's first two octets
     pub candidate-huge : (getD s (p + 8) 0 ≡ 0 → ⊥) → fails ≡ over s (candidateAt p)
-    candidate-huge h = let e = length-octets in let z = positive (getD s (p + 8) 0) h in candidate-long refl (omega arith)
+    candidate-huge h = let e = length-octets in candidate-long refl (omega arith)
 
     pub candidate-large : 1 < getD s (p + 9) 0 → fails ≡ over s (candidateAt p)
     candidate-large h = let e = length-octets in candidate-long refl (omega arith)
