@@ -18,6 +18,7 @@ use walk_step::WalkAnswer;
 
 // The next answer of a walk that is lent as its position and its finished mark. Room for every answer is asked for before the
 // walk moves, so that no answer is lost.
+// A record that passes is the usual answer: it is handed out first, and needs nothing of the search.
 #[no_mangle]
 pub extern "C" fn mrt_next(
     s: &[u8],
@@ -44,7 +45,6 @@ pub extern "C" fn mrt_next(
         return 9;
     }
     if finished == 0 {
-        // A record that passes is the usual answer, and needs nothing of the search.
         if let Verdict::Fit {
             header,
             wire,
