@@ -9,7 +9,8 @@ use Rattle.answer.specs.Refusal.{numberOf, outcomeNumber}
 use Rattle.answer.specs.declared.Outcome.{Outcome}
 use Rattle.answer.specs.declared.Outcome.the-variants.{Accepted, Refused}
 use Rattle.answer.specs.declared.Refusal.{Refusal}
-use Rattle.answer.specs.declared.Refusal.the-variants.{TruncatedHeader, UnknownType, ShortLength, TruncatedBody, NotCarried, OtherSubtype, BodyNotMet, Beyond, NoRoom, TooLarge, WindowExhausted}
+use Rattle.answer.specs.declared.Refusal.the-variants.{TruncatedHeader, UnknownType, ShortLength, TruncatedBody}
+use Rattle.answer.specs.declared.Refusal.the-variants.{NotCarried, OtherSubtype, BodyNotMet, Beyond, NoRoom, TooLarge}
 
 -- no refusal has the number of none
 pub number-not-zero : (r : Refusal) → numberOf r ≡ 0 → ⊥
@@ -23,7 +24,6 @@ number-not-zero BodyNotMet e = omega arith
 number-not-zero Beyond e = omega arith
 number-not-zero NoRoom e = omega arith
 number-not-zero TooLarge e = omega arith
-number-not-zero WindowExhausted e = omega arith
 
 pub number-refusal : (r : Refusal) → eqb (numberOf r) 0 ≡ false
 number-refusal r = ne-eqb (numberOf r) 0 (number-not-zero r)
@@ -39,8 +39,7 @@ named n =
     (cond (eqb n 6) OtherSubtype
     (cond (eqb n 7) BodyNotMet
     (cond (eqb n 8) Beyond
-    (cond (eqb n 9) NoRoom
-    (cond (eqb n 10) TooLarge WindowExhausted)))))))))
+    (cond (eqb n 9) NoRoom TooLarge))))))))
 
 named-number : (r : Refusal) → named (numberOf r) ≡ r
 unfolding named
@@ -54,7 +53,6 @@ named-number BodyNotMet = refl
 named-number Beyond = refl
 named-number NoRoom = refl
 named-number TooLarge = refl
-named-number WindowExhausted = refl
 
 -- a refusal is known by its number
 pub number-unique : (a b : Refusal) → numberOf a ≡ numberOf b → a ≡ b

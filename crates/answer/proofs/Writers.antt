@@ -1,6 +1,6 @@
 -- What a writer has to show of the octets that it stores at the front.
 use Prim.Native.Nat.{ℕ, _<_, _≤_}
-use mathlib.Core.Path.{_≡_, refl, sym, _∙_, ap}
+use mathlib.Core.Path.{_≡_, sym, ap}
 use mathlib.Core.List.{List}
 use lib.ListN.{length}
 use borrow.Author.Tests.{le-leb, lt-leb}
@@ -25,4 +25,5 @@ pub wrote-unique : (a b : Written) (t u : List ℕ) → wrote a t ≡ wrote b u 
 wrote-unique (Octets m) (Octets n) t u e = (ap (λ (w : Writing). Octets (w .octets)) e, ap (λ (w : Writing). w .output) e)
 wrote-unique (Octets m) (Refused r) t u e = absurd (number-not-zero r (ap (λ (w : Writing). w .number) (sym e)))
 wrote-unique (Refused r) (Octets n) t u e = absurd (number-not-zero r (ap (λ (w : Writing). w .number) e))
-wrote-unique (Refused r) (Refused q) t u e = (ap Refused (number-unique r q (ap (λ (w : Writing). w .number) e)), ap (λ (w : Writing). w .output) e)
+wrote-unique (Refused r) (Refused q) t u e =
+    (ap Refused (number-unique r q (ap (λ (w : Writing). w .number) e)), ap (λ (w : Writing). w .output) e)

@@ -13,7 +13,6 @@ pub enum Refusal {
     Beyond,
     NoRoom,
     TooLarge,
-    WindowExhausted,
 }
 
 // Whether a call has served, beside a value that no enum can hold.
@@ -43,6 +42,5 @@ pub fn number(r: Refusal) -> u8
         Refusal::Beyond => 8,
         Refusal::NoRoom => 9,
         Refusal::TooLarge => 10,
-        Refusal::WindowExhausted => 11,
     }
 }

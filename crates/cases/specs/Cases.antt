@@ -4,24 +4,28 @@
 use Prim.Native.Nat.{ℕ, _-_}
 use Prim.Native.String.{String}
 use mathlib.Core.Path.{_≡_}
-use mathlib.Core.Bool.{Bool, cond}
+use mathlib.Core.Bool.{cond}
 use mathlib.Core.List.{List, [], _∷_, _++_}
 use lib.ListN.{replicate, length}
 use Rattle.octets.specs.Octets.{bytesOf}
 use Rattle.rules.specs.Ask.{over}
 use Rattle.header.specs.Read.{Heading, headerAt}
+use Rattle.peers_table.specs.Table as Table
 use Rattle.peers_table.specs.Table.{checkPeers}
-use Rattle.rib_read.specs.Rib.{ribOf}
+use Rattle.rib_read.specs.Rib.{Reading, ribOf}
 use Rattle.walk_checks.specs.Bgp4mp.{bgp4mp}
 use Rattle.walk.specs.Judged.{Candidate, stands, fails}
 use Rattle.walk.specs.Step.{Answer, handed, gap, end, refused, Stepped, freshWalk, step}
-use Rattle.walk_judge.specs.Record.{Judging, judgementAt, judgeAt}
+use Rattle.walk_judge.specs.Record.{Judging, judgeAt}
 use Rattle.walk_candidate.specs.Candidate.{candidateAt}
 
 pub record Row : Type 0 where
   pub case : String
   pub found : List ℕ
   pub expected : List ℕ
+
+abbrev pub row : String → List ℕ → List ℕ → Row
+row case found expected = record { case = case; found = found; expected = expected }
 
 -- every row holds
 abbrev pub Hold : List Row → Type 0
@@ -31,6 +35,14 @@ Hold (r ∷ rs) = (r .found ≡ r .expected) × Hold rs
 -- a header's answer
 abbrev pub heading : Heading → List ℕ
 heading h = h .number ∷ h .timestamp ∷ h .kind ∷ h .subtype ∷ h .wire ∷ h .stored ∷ h .micros ∷ []
+
+-- a peer table: the refusal's number, and how many peers
+abbrev pub counted : Table.Heading → List ℕ
+counted t = t .number ∷ t .count ∷ []
+
+-- a RIB body: the refusal's number, and how many entries are declared and read
+abbrev pub entered : Reading → List ℕ
+entered r = r .number ∷ r .declared ∷ r .count ∷ []
 
 -- a judgement: the refusal's number, where the record starts, and where it ends
 abbrev pub judging : Judging → List ℕ
@@ -74,24 +86,25 @@ first s window k = call (over s (step judgeAt candidateAt freshWalk window k))
 
 unfoldable pub rows : List Row
 rows =
-    record { case = "11 zero octets"; found = heading (headerAt (replicate 11 0) 0); expected = 1 ∷ replicate 6 0 }
-    ∷ record { case = "type 17, wire length 3"; found = heading (headerAt (common 17 0 3 ++ replicate 4 0) 0); expected = 3 ∷ replicate 6 0 }
-    ∷ record { case = "type 17, wire length 4, 16 octets"; found = heading (headerAt (common 17 0 4 ++ replicate 4 0) 0); expected = 0 ∷ 0 ∷ 17 ∷ 0 ∷ 4 ∷ 0 ∷ 0 ∷ [] }
-    ∷ record { case = "a peer body of 7 octets"; found = checkPeers (replicate 7 0) .number ∷ []; expected = 7 ∷ [] }
-    ∷ record { case = "a peer body of 8 zero octets has no peers"; found = checkPeers (replicate 8 0) .number ∷ checkPeers (replicate 8 0) .count ∷ []; expected = 0 ∷ 0 ∷ [] }
-    ∷ record { case = "IPv4 prefix bits 32"; found = ribOf (rib 32 4 0 []) 2 .number ∷ ribOf (rib 32 4 0 []) 2 .bits ∷ []; expected = 0 ∷ 32 ∷ [] }
-    ∷ record { case = "IPv4 prefix bits 33"; found = ribOf (rib 33 5 0 []) 2 .number ∷ []; expected = 7 ∷ [] }
-    ∷ record { case = "count 2, one entry fits"; found = ribOf (rib 0 0 2 (replicate 8 0)) 2 .number ∷ ribOf (rib 0 0 2 (replicate 8 0)) 2 .declared ∷ ribOf (rib 0 0 2 (replicate 8 0)) 2 .count ∷ []; expected = 0 ∷ 2 ∷ 1 ∷ [] }
-    ∷ record { case = "KEEPALIVE of 19 octets"; found = bgp4mp 1 (message 4 19) ∷ []; expected = 0 ∷ [] }
-    ∷ record { case = "KEEPALIVE of 20 octets"; found = bgp4mp 1 (message 4 20) ∷ []; expected = 7 ∷ [] }
-    ∷ record { case = "OPEN of 4,096 octets"; found = bgp4mp 1 (message 1 4096) ∷ []; expected = 0 ∷ [] }
-    ∷ record { case = "OPEN of 4,097 octets"; found = bgp4mp 1 (message 1 4097) ∷ []; expected = 7 ∷ [] }
-    ∷ record { case = "a candidate's microseconds of 999,999"; found = candidacy (over (extended 999999) (candidateAt 0)); expected = 1 ∷ 16 ∷ 2 ∷ 51 ∷ [] }
-    ∷ record { case = "a candidate's microseconds of 1,000,000"; found = candidacy (over (extended 1000000) (candidateAt 0)); expected = 0 ∷ [] }
-    ∷ record { case = "the walk takes microseconds of 999,999"; found = first (extended 999999) 0 1; expected = 51 ∷ 0 ∷ 0 ∷ 0 ∷ 51 ∷ [] }
-    ∷ record { case = "the walk takes microseconds of 1,000,000"; found = first (extended 1000000) 0 1; expected = 51 ∷ 0 ∷ 0 ∷ 0 ∷ 51 ∷ [] }
-    ∷ record { case = "seven zero octets, window 0"; found = first (replicate 7 0) 0 1; expected = 0 ∷ 1 ∷ 11 ∷ 0 ∷ 0 ∷ 1 ∷ [] }
-    ∷ record { case = "seven zero octets, window 1"; found = first (replicate 7 0) 1 1; expected = 0 ∷ 1 ∷ 11 ∷ 0 ∷ 1 ∷ 1 ∷ [] }
-    ∷ record { case = "six zero octets, window 1"; found = first (replicate 6 0) 1 1; expected = 6 ∷ 0 ∷ 1 ∷ 0 ∷ 6 ∷ 1 ∷ 5 ∷ 0 ∷ [] }
-    ∷ record { case = "a last record refused with 7, framed to the end"; found = first (common 13 1 7 ++ replicate 7 0) 0 3; expected = 19 ∷ 0 ∷ 1 ∷ 0 ∷ 19 ∷ 7 ∷ 4 ∷ 0 ∷ [] }
+    row "11 zero octets" (heading (headerAt (replicate 11 0) 0)) (1 ∷ replicate 6 0)
+    ∷ row "type 17, wire length 3" (heading (headerAt (common 17 0 3 ++ replicate 4 0) 0)) (3 ∷ replicate 6 0)
+    ∷ row "type 17, wire length 4, 16 octets" (heading (headerAt (common 17 0 4 ++ replicate 4 0) 0)) (0 ∷ 0 ∷ 17 ∷ 0 ∷ 4 ∷ 0 ∷ 0 ∷ [])
+    ∷ row "a peer body of 7 octets" (checkPeers (replicate 7 0) .number ∷ []) (7 ∷ [])
+    ∷ row "a peer body of 8 zero octets has no peers" (counted (checkPeers (replicate 8 0))) (0 ∷ 0 ∷ [])
+    ∷ row "IPv4 prefix bits 32" (ribOf (rib 32 4 0 []) 2 .number ∷ ribOf (rib 32 4 0 []) 2 .bits ∷ []) (0 ∷ 32 ∷ [])
+    ∷ row "IPv4 prefix bits 33" (ribOf (rib 33 5 0 []) 2 .number ∷ []) (7 ∷ [])
+    ∷ row "count 2, one entry fits" (entered (ribOf (rib 0 0 2 (replicate 8 0)) 2)) (0 ∷ 2 ∷ 1 ∷ [])
+    ∷ row "KEEPALIVE of 19 octets" (bgp4mp 1 (message 4 19) ∷ []) (0 ∷ [])
+    ∷ row "KEEPALIVE of 20 octets" (bgp4mp 1 (message 4 20) ∷ []) (7 ∷ [])
+    ∷ row "OPEN of 4,096 octets" (bgp4mp 1 (message 1 4096) ∷ []) (0 ∷ [])
+    ∷ row "OPEN of 4,097 octets" (bgp4mp 1 (message 1 4097) ∷ []) (7 ∷ [])
+    ∷ row "a candidate's microseconds of 999,999" (candidacy (over (extended 999999) (candidateAt 0))) (1 ∷ 16 ∷ 2 ∷ 51 ∷ [])
+    ∷ row "a candidate's microseconds of 1,000,000" (candidacy (over (extended 1000000) (candidateAt 0))) (0 ∷ [])
+    ∷ row "the walk takes microseconds of 999,999" (first (extended 999999) 0 1) (51 ∷ 0 ∷ 0 ∷ 0 ∷ 51 ∷ [])
+    ∷ row "the walk takes microseconds of 1,000,000" (first (extended 1000000) 0 1) (51 ∷ 0 ∷ 0 ∷ 0 ∷ 51 ∷ [])
+    ∷ row "seven zero octets, window 0" (first (replicate 7 0) 0 1) (0 ∷ 1 ∷ 11 ∷ 0 ∷ 0 ∷ 1 ∷ [])
+    ∷ row "seven zero octets, window 1" (first (replicate 7 0) 1 1) (0 ∷ 1 ∷ 11 ∷ 0 ∷ 1 ∷ 1 ∷ [])
+    ∷ row "six zero octets, window 1" (first (replicate 6 0) 1 1) (6 ∷ 0 ∷ 1 ∷ 0 ∷ 6 ∷ 1 ∷ 5 ∷ 0 ∷ [])
+    ∷ row "a last record refused with 7, framed to the end"
+    (first (common 13 1 7 ++ replicate 7 0) 0 3) (19 ∷ 0 ∷ 1 ∷ 0 ∷ 19 ∷ 7 ∷ 4 ∷ 0 ∷ [])
     ∷ []

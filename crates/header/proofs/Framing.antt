@@ -5,7 +5,7 @@ use mathlib.Core.Bool.{Bool, true, false}
 use mathlib.Core.List.{List}
 use native.Mathlib.Omega.{arith}
 use lib.ListN.{length, drop, length-drop}
-use lib.Dec.{ltb, leb, eqb}
+use lib.Dec.{ltb, eqb}
 use borrow.Author.Tests.{lt-ltb, le-ltb, ltb-true, ltb-false, le-leb, lt-leb, eq-eqb, ne-eqb, eqb-false}
 use Rattle.rules.specs.Ask.{over}
 use Rattle.rules.proofs.Asked.{over-bind}
@@ -117,14 +117,14 @@ module _ (s : List ℕ) (at : ℕ) where
         pub of-cut : length s - at < z + h .stored → unframed 4 ≡ frameOf s at h
         unfolding framed over
         of-cut m =
-            let c : leb (size (h .kind) + h .stored) (length (drop at s)) ≡ false = lt-leb (size (h .kind) + h .stored) (length (drop at s)) (rw length-drop (omega arith)) in
-            rw (← of-within, eq-eqb (h .number) 0 e, c)
+            let g : length (drop at s) < size (h .kind) + h .stored = rw length-drop (omega arith) in
+            rw (← of-within, eq-eqb (h .number) 0 e, lt-leb _ _ g)
 
         pub of-whole : z + h .stored ≤ length s - at → record { head = h; body = at + z; end = at + (z + h .stored) } ≡ frameOf s at h
         unfolding framed over
         of-whole m =
-            let c : leb (size (h .kind) + h .stored) (length (drop at s)) ≡ true = le-leb (size (h .kind) + h .stored) (length (drop at s)) (rw length-drop (omega arith)) in
-            rw (← of-within, eq-eqb (h .number) 0 e, c, i)
+            let g : size (h .kind) + h .stored ≤ length (drop at s) = rw length-drop (omega arith) in
+            rw (← of-within, eq-eqb (h .number) 0 e, le-leb _ _ g, i)
 
   -- the frame by the header that was read
   frame-of : at ≤ length s → frameOf s at (headerAt s at) ≡ frameAt s at
@@ -157,7 +157,10 @@ module _ (s : List ℕ) (at : ℕ) where
   module _ {t k u w stored us : ℕ} (e : accepted t k u w stored us ≡ headerAt s at) where
     not-beyond : length s < at → ⊥
     unfolding headerAt
-    not-beyond l = let q : accepted t k u w stored us ≡ refused 8 = e ∙ simp (lt-ltb _ _ l) in let z : _≡_ {A = ℕ} 0 8 = ap (λ (h : Heading). h .number) q in omega arith
+    not-beyond l =
+        let q : accepted t k u w stored us ≡ refused 8 = e ∙ simp (lt-ltb _ _ l) in
+        let z : _≡_ {A = ℕ} 0 8 = ap (λ (h : Heading). h .number) q in
+        omega arith
 
     pub read-within : at ≤ length s
     read-within = by-place (λ l. absurd (not-beyond l)) (λ l. l)

@@ -44,11 +44,15 @@ module _ (k : ℕ) where
 
   up-to-49 : 48 ≤ k → k ≤ 49 → true ≡ known k
   unfolding known
-  up-to-49 a b = simp (lt-leb k 13 (omega arith), above k 16 17 (omega arith) (omega arith), above k 32 33 (omega arith) (omega arith), within k 48 49 a b)
+  up-to-49 a b =
+      simp (lt-leb k 13 (omega arith), above k 16 17 (omega arith) (omega arith), above k 32 33 (omega arith) (omega arith))
+      (simp (within k 48 49 a b))
 
   pub after-49 : 49 < k → false ≡ known k
   unfolding known
-  after-49 a = simp (lt-leb k 13 (omega arith), above k 16 17 (omega arith) (omega arith), above k 32 33 (omega arith) (omega arith), above k 48 49 (omega arith) a)
+  after-49 a =
+      simp (lt-leb k 13 (omega arith), above k 16 17 (omega arith) (omega arith), above k 32 33 (omega arith) (omega arith))
+      (simp (above k 48 49 (omega arith) a))
 
   -- the first two of each sixteen
   pub from-14 : 14 ≤ k → k ≤ 49 → ltb (k % 16) 2 ≡ known k

@@ -67,10 +67,12 @@ pub data Shape (s : List ℕ) : Heading → Type 0 where
 
 pub shape : (s : List ℕ) → over s header .number ≡ 0 → Shape s (over s header)
 unfolding header over
-shape s z = by-tests (leb 12 (length s)) (known (beAt s 4 2)) (timed (beAt s 4 2)) (ltb (beAt s 8 4) 4) (leb 16 (length s)) refl refl refl refl refl z
+shape s z =
+    by-tests (leb 12 (length s)) (known (beAt s 4 2)) (timed (beAt s 4 2)) (ltb (beAt s 8 4) 4) (leb 16 (length s))
+    refl refl refl refl refl z
   where
-    by-tests : (a b c d e : Bool) → leb 12 (length s) ≡ a → known (beAt s 4 2) ≡ b → timed (beAt s 4 2) ≡ c → ltb (beAt s 8 4) 4 ≡ d → leb 16 (length s) ≡ e
-        → over s header .number ≡ 0 → Shape s (over s header)
+    by-tests : (a b c d e : Bool) → leb 12 (length s) ≡ a → known (beAt s 4 2) ≡ b → timed (beAt s 4 2) ≡ c
+        → ltb (beAt s 8 4) 4 ≡ d → leb 16 (length s) ≡ e → over s header .number ≡ 0 → Shape s (over s header)
     by-tests false b c d e p q r u v z = absurd (let y : _≡_ {A = ℕ} 1 0 = rw p at z in omega arith)
     by-tests true false c d e p q r u v z = absurd (let y : _≡_ {A = ℕ} 2 0 = rw (p, q) at z in omega arith)
     by-tests true true false d e p q r u v z = rw (p, q, r) (plain (leb-true _ _ p) q r)

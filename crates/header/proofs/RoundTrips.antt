@@ -23,7 +23,8 @@ use Rattle.header.proofs.Writing.{length-common, length-header, timed-o
 
 -- a header whose octets stand at the front is read
 module _ (h : CommonHeader) (i : InWidth h) where
-  common-fields : (w : WireLength) (q : List ℕ) → w .0 < 4294967296 → Fields (commonOctets h w ++ q) (h .timestamp) (h .kind) (h .subtype) (w .0)
+  common-fields : (w : WireLength) (q : List ℕ) → w .0 < 4294967296
+      → Fields (commonOctets h w ++ q) (h .timestamp) (h .kind) (h .subtype) (w .0)
   unfolding commonOctets
   common-fields w q l =
       let t = bytesOf 4 (h .timestamp) in
@@ -69,10 +70,13 @@ module _ (h : CommonHeader) (i : InWidth h) where
       let l : h .length .0 ≤ 4294967291 = fit-timed e f in
       let w : WireLength = record { 0 = h .length .0 + 4 } in
       let m = bytesOf 4 (h .micros) in
-      let g : headerOctets h ++ q ≡ commonOctets h w ++ (m ++ q) = rw (← timed-octets h e) (append-assoc (commonOctets h w) m q) in
+      let c = commonOctets h w in
+      let g : headerOctets h ++ q ≡ c ++ (m ++ q) = rw (← timed-octets h e) (append-assoc c m q) in
       let s : h .length .0 + 4 - 4 ≡ h .length .0 = omega arith in
-      let k : 16 ≤ length (commonOctets h w ++ (m ++ q)) = rw (length-append (commonOctets h w) (m ++ q), length-append m q, length-common h w, length-bytes 4 (h .micros)) (omega arith) in
-      rw (g, wire-timed e, ← header-timed (common-fields w (m ++ q) (omega arith)) n e (omega arith) k (be-of-field (commonOctets h w) q 12 4 (h .micros) (length-common h w) (i .micros)), s)
+      let k : 16 ≤ length (c ++ (m ++ q)) =
+      rw (length-append c (m ++ q), length-append m q, length-common h w, length-bytes 4 (h .micros)) (omega arith) in
+      let us = be-of-field c q 12 4 (h .micros) (length-common h w) (i .micros) in
+      rw (g, wire-timed e, ← header-timed (common-fields w (m ++ q) (omega arith)) n e (omega arith) k us, s)
 
   read-plain : (q : List ℕ) → known (h .kind) ≡ true → timed (h .kind) ≡ false → unfit h ≡ false → said ≡ over (headerOctets h ++ q) header
   read-plain q n e f =
@@ -95,8 +99,8 @@ module _ (h : CommonHeader) (i : InWidth h) where
 
 -- the octets of the header that was read are the octets that stood there
 module _ (s : List ℕ) (o : Octets s) where
-  common-back : (h : CommonHeader) (w : WireLength) → 12 ≤ length s → h .timestamp ≡ beAt s 0 4 → h .kind ≡ beAt s 4 2 → h .subtype ≡ beAt s 6 2 → w .0 ≡ beAt s 8 4
-      → commonOctets h w ≡ part s 0 12
+  common-back : (h : CommonHeader) (w : WireLength) → 12 ≤ length s
+      → h .timestamp ≡ beAt s 0 4 → h .kind ≡ beAt s 4 2 → h .subtype ≡ beAt s 6 2 → w .0 ≡ beAt s 8 4 → commonOctets h w ≡ part s 0 12
   unfolding commonOctets
   common-back h w l t k u v =
       rw (
@@ -115,7 +119,8 @@ module _ (s : List ℕ) (o : Octets s) where
 
   octets-back : (h : Heading) → Shape s h → headerOctets (headerOf h) ≡ take (size (h .kind)) s
   octets-back h (plain l n e) =
-      rw (size-plain (beAt s 4 2) e, ← plain-octets (headerOf h) e) (common-back (headerOf h) (record { 0 = beAt s 8 4 }) l refl refl refl refl)
+      rw (size-plain (beAt s 4 2) e, ← plain-octets (headerOf h) e)
+      (common-back (headerOf h) (record { 0 = beAt s 8 4 }) l refl refl refl refl)
   octets-back h (extended l n e g) =
       let w : WireLength = record { 0 = beAt s 8 4 - 4 + 4 } in
       let c : commonOctets (headerOf h) w ≡ part s 0 12 = common-back (headerOf h) w (omega arith) refl refl refl (omega arith) in
@@ -133,7 +138,11 @@ module _ (s : List ℕ) (o : Octets s) where
   -- THEOREM. What the reader accepts, the writer writes back as the same octets, wherever they have room.
   pub write-of-read : (out : List ℕ) → over s header .number ≡ 0 → size (over s header .kind) ≤ length out
       → writeHeader out (headerOf (over s header))
-      ≡ record { number = 0; octets = size (over s header .kind); output = take (size (over s header .kind)) s ++ drop (size (over s header .kind)) out }
+      ≡ record {
+        number = 0;
+        octets = size (over s header .kind);
+        output = take (size (over s header .kind)) s ++ drop (size (over s header .kind)) out;
+      }
   unfolding writeHeader atFront
   write-of-read out z r =
       let h : Heading = over s header in

@@ -1,7 +1,5 @@
 -- Two answers that say the same are equal: the promises allow one result.
-use Prim.Native.Nat.{ℕ}
-use mathlib.Core.Path.{_≡_, refl, sym, ap}
-use Rattle.answer.specs.Refusal.{numberOf}
+use mathlib.Core.Path.{_≡_, sym, ap}
 use Rattle.answer.proofs.Refusals.{number-not-zero, number-unique}
 use Rattle.header.specs.Read.{Heading, values}
 use Rattle.header.specs.Frame.{Framing, framing}

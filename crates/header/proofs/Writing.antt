@@ -1,13 +1,13 @@
 -- What the writer's definition is in each of its cases.
 use Prim.Native.Nat.{ℕ, _+_, _<_, _≤_}
-use mathlib.Core.Path.{_≡_, refl, sym, _∙_, ap}
+use mathlib.Core.Path.{_≡_, refl, _∙_, ap}
 use mathlib.Core.Bool.{Bool, true, false, cond}
 use mathlib.Core.List.{List, [], _++_, append-nil}
 use lib.ListN.{length, drop, length-append}
 use lib.Dec.{leb}
 use native.Mathlib.Omega.{arith}
 use borrow.Author.Tests.{lt-ltb, le-ltb, eq-eqb, ne-eqb}
-use Rattle.answer.specs.Writing.{Writing, refuse, atFront}
+use Rattle.answer.specs.Writing.{refuse, atFront}
 use Rattle.answer.proofs.Writers.{front-full, front-stored}
 use Rattle.octets.specs.Octets.{bytesOf, patch}
 use Rattle.octets.proofs.Numbers.{length-bytes}
@@ -34,14 +34,16 @@ module _ (h : CommonHeader) (w : WireLength) where
       let four : length time ≡ 4 = length-bytes 4 (h .timestamp) in
       let six : length (time ++ kind) ≡ 6 = length-append time kind ∙ simp (four, length-bytes 2 (h .kind)) in
       let eight : length (time ++ kind ++ sub) ≡ 8 = length-append (time ++ kind) sub ∙ simp (six, length-bytes 2 (h .subtype)) in
-      stores s 0 8 (time ++ kind ++ sub) (bytesOf 4 (w .0)) eight (stores s 0 6 (time ++ kind) sub six (stores s 0 4 time kind four p q) r) t
+      stores s 0 8 (time ++ kind ++ sub) (bytesOf 4 (w .0)) eight
+      (stores s 0 6 (time ++ kind) sub six (stores s 0 4 time kind four p q) r) t
 
 module _ (h : CommonHeader) where
   pub length-header : length (headerOctets h) ≡ size (h .kind)
   unfolding headerOctets
   length-header = length-append (commonOctets h (wireOf h)) _ ∙ by-test (timed (h .kind)) refl
     where
-      by-test : (t : Bool) → timed (h .kind) ≡ t → length (commonOctets h (wireOf h)) + length (cond t (bytesOf 4 (h .micros)) []) ≡ size (h .kind)
+      by-test : (t : Bool) → timed (h .kind) ≡ t
+          → length (commonOctets h (wireOf h)) + length (cond t (bytesOf 4 (h .micros)) []) ≡ size (h .kind)
       by-test true e = simp (length-common h (wireOf h), length-bytes 4 (h .micros), size-timed (h .kind) e)
       by-test false e = simp (length-common h (wireOf h), size-plain (h .kind) e)
 
@@ -91,12 +93,13 @@ module _ (h : CommonHeader) where
           timed-full m = front-full s (headerOctets h) 16 (length-header ∙ size-timed (h .kind) i) m ∙ timed-front
 
           -- t is the output after the common fields, and u after the microseconds
-          pub timed-stored : 16 ≤ length s → {t u : List ℕ} → t ≡ patch s 0 (commonOctets h (record { 0 = h .length .0 + 4 })) → u ≡ patch t 12 (bytesOf 4 (h .micros))
-              → record { number = 0; octets = 16; output = u } ≡ writeHeader s h
+          pub timed-stored : 16 ≤ length s → {t u : List ℕ} → t ≡ patch s 0 (commonOctets h (record { 0 = h .length .0 + 4 }))
+              → u ≡ patch t 12 (bytesOf 4 (h .micros)) → record { number = 0; octets = 16; output = u } ≡ writeHeader s h
           timed-stored m {t} {u} p q =
               let w : WireLength = record { 0 = h .length .0 + 4 } in
-              let r : u ≡ patch s 0 (commonOctets h w ++ bytesOf 4 (h .micros)) = stores s 0 12 (commonOctets h w) (bytesOf 4 (h .micros)) (length-common h w) p q in
-              front-stored s (headerOctets h) 16 (length-header ∙ size-timed (h .kind) i) m u (r ∙ ap (patch s 0) (timed-octets i)) ∙ timed-front
+              let r = stores s 0 12 (commonOctets h w) (bytesOf 4 (h .micros)) (length-common h w) p q in
+              front-stored s (headerOctets h) 16 (length-header ∙ size-timed (h .kind) i) m u (r ∙ ap (patch s 0) (timed-octets i))
+              ∙ timed-front
 
       module _ (i : timed (h .kind) ≡ false) where
         pub plain-unfit : (h .micros ≡ 0 → ⊥) → refuse 10 s ≡ writeHeader s h
@@ -111,5 +114,8 @@ module _ (h : CommonHeader) where
           pub plain-full : length s < 12 → refuse 9 s ≡ writeHeader s h
           plain-full m = front-full s (headerOctets h) 12 (length-header ∙ size-plain (h .kind) i) m ∙ plain-front
 
-          pub plain-stored : 12 ≤ length s → {t : List ℕ} → t ≡ patch s 0 (commonOctets h (record { 0 = h .length .0 })) → record { number = 0; octets = 12; output = t } ≡ writeHeader s h
-          plain-stored m {t} p = front-stored s (headerOctets h) 12 (length-header ∙ size-plain (h .kind) i) m t (p ∙ ap (patch s 0) (plain-octets i)) ∙ plain-front
+          pub plain-stored : 12 ≤ length s → {t : List ℕ} → t ≡ patch s 0 (commonOctets h (record { 0 = h .length .0 }))
+              → record { number = 0; octets = 12; output = t } ≡ writeHeader s h
+          plain-stored m {t} p =
+              front-stored s (headerOctets h) 12 (length-header ∙ size-plain (h .kind) i) m t (p ∙ ap (patch s 0) (plain-octets i))
+              ∙ plain-front

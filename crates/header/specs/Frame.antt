@@ -8,7 +8,7 @@ use lib.Dec.{ltb, eqb}
 use Rattle.answer.specs.Refusal.{numberOf}
 use Rattle.rules.specs.Ask.{Ask, done, has, over, _>>=_}
 use Rattle.header.specs.Kind.{size}
-use Rattle.header.specs.Read.{Heading, refused, accepted, header}
+use Rattle.header.specs.Read.{Heading, refused, headingOf, header}
 use Rattle.header.specs.declared.FrameAnswer.{FrameAnswer}
 use Rattle.header.specs.declared.FrameAnswer.the-variants.{Framed, Refused}
 
@@ -23,14 +23,16 @@ unframed n = record { head = refused n; body = 0; end = 0 }
 
 -- what each answer says
 abbrev pub framing : FrameAnswer → Framing
-framing (Framed h w body end) = record { head = accepted (h .timestamp) (h .kind) (h .subtype) (w .0) (h .length .0) (h .micros); body = body; end = end }
+framing (Framed h w body end) = record { head = headingOf h w; body = body; end = end }
 framing (Refused r) = unframed (numberOf r)
 
 -- the record of a header h that stands at the front, where that is the offset at of the stream
 unfoldable pub framed : ℕ → Heading → Ask Framing
 framed at h =
     cond (eqb (h .number) 0)
-    (has (size (h .kind) + h .stored) (done (record { head = h; body = at + size (h .kind); end = at + (size (h .kind) + h .stored) })) (λ n. done (unframed 4)))
+    (has (size (h .kind) + h .stored)
+    (done (record { head = h; body = at + size (h .kind); end = at + (size (h .kind) + h .stored) }))
+    (λ n. done (unframed 4)))
     (done (unframed (h .number)))
 
 -- the record at the front

@@ -9,6 +9,8 @@ use lib.Dec.{ltb}
 use Rattle.answer.specs.Refusal.{numberOf}
 use Rattle.rules.specs.Ask.{Ask, done, has, number, over}
 use Rattle.header.specs.Kind.{known, timed}
+use Rattle.header.specs.declared.CommonHeader.{CommonHeader}
+use Rattle.header.specs.declared.WireLength.{WireLength}
 use Rattle.header.specs.declared.HeaderAnswer.{HeaderAnswer}
 use Rattle.header.specs.declared.HeaderAnswer.the-variants.{Read, Refused}
 
@@ -29,9 +31,13 @@ refused n = record { number = n; timestamp = 0; kind = 0; subtype = 0; wire = 0;
 abbrev pub accepted : ℕ → ℕ → ℕ → ℕ → ℕ → ℕ → Heading
 accepted t k u w stored us = record { number = 0; timestamp = t; kind = k; subtype = u; wire = w; stored = stored; micros = us }
 
+-- what a header and its wire length say
+abbrev pub headingOf : CommonHeader → WireLength → Heading
+headingOf h w = accepted (h .timestamp) (h .kind) (h .subtype) (w .0) (h .length .0) (h .micros)
+
 -- what each answer of the reader says
 abbrev pub values : HeaderAnswer → Heading
-values (Read h w) = accepted (h .timestamp) (h .kind) (h .subtype) (w .0) (h .length .0) (h .micros)
+values (Read h w) = headingOf h w
 values (Refused r) = refused (numberOf r)
 
 -- the header at the front of a stream

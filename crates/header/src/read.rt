@@ -63,7 +63,8 @@ fn read(
     stored: StoredLength,
     micros: u32,
 ) -> HeaderAnswer
-    ensures { λ r. ⌜ r ≡ HeaderAnswer.Read (record { timestamp = timestamp; kind = kind; subtype = subtype; length = stored; micros = micros }) wire ⌝ }
+    ensures { λ r. ⌜ r
+        ≡ HeaderAnswer.Read (record { timestamp = timestamp; kind = kind; subtype = subtype; length = stored; micros = micros }) wire ⌝ }
 {
     HeaderAnswer::Read {
         header: CommonHeader {

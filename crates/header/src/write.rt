@@ -1,7 +1,5 @@
 // Writing the header: the other way round.
 ghost use mathlib.Core.Path.{_≡_};
-ghost use Prim.Native.Nat.{_≤_};
-ghost use lib.ListN.{length};
 ghost use Rattle.answer.specs.Writing.{wrote};
 ghost use Rattle.octets.specs.Octets.{patch};
 ghost use Rattle.header.specs.Write.{commonOctets, writeHeader};

@@ -1,6 +1,5 @@
 // Numbers in lent octets, as a line has them. What has no room is dropped; where the text ends is answered all the same.
 ghost use mathlib.Core.Path.{_≡_};
-ghost use mathlib.Core.List.{_∷_};
 ghost use Prim.Native.Nat.{_+_, _*_, _<_};
 ghost use lib.ListN.{length};
 ghost use Rattle.listing_lines.specs.Listing.{wrote, decimal, field, fields};

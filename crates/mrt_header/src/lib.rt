@@ -54,7 +54,8 @@ pub extern "C" fn mrt_write_header(
     stored: u32,
     micros: u32,
 ) -> Wrote
-    ensures answer { λ r. ⌜ (now (out .exit), r) ≡ writtenOut (writeHeader (now (out .entry)) (record { timestamp = timestamp; kind = kind; subtype = subtype; length = record { 0 = stored }; micros = micros })) ⌝ }
+    ensures answer { λ r. ⌜ (now (out .exit), r) ≡ writtenOut (writeHeader (now (out .entry))
+        (record { timestamp = timestamp; kind = kind; subtype = subtype; length = record { 0 = stored }; micros = micros })) ⌝ }
 {
     let header = CommonHeader {
         timestamp,

@@ -18,7 +18,8 @@ struct Taken {
 // one, `mrt_next` says.
 #[no_mangle]
 pub extern "C" fn mrt_records(s: &[u8], walk: &mut [u64], out: &mut [u64]) -> Handed
-    ensures answer { λ r. ⌜ (now (walk .exit), (now (out .exit), r)) ≡ recordsOut (now (s .entry)) (now (walk .entry)) (now (out .entry)) ⌝ }
+    ensures answer { λ r. ⌜ (now (walk .exit), (now (out .exit), r))
+        ≡ recordsOut (now (s .entry)) (now (walk .entry)) (now (out .entry)) ⌝ }
 {
     if walk.len() < 2 {
         return mrt_lent::none_handed(8);
@@ -47,7 +48,8 @@ pub extern "C" fn mrt_records(s: &[u8], walk: &mut [u64], out: &mut [u64]) -> Ha
 
 // Records from an offset on, in the places that are lent for them.
 fn take_records(s: &[u8], from: usize, out: &mut [u64]) -> Taken
-    ensures { λ r. ⌜ (now (out .exit), (r .count, r .next)) ≡ rowsOut (now (out .entry)) (rowsFrom (recordAt (now (s .entry))) (length (now (out .entry)) / 10) from) ⌝ }
+    ensures { λ r. ⌜ (now (out .exit), (r .count, r .next))
+        ≡ rowsOut (now (out .entry)) (rowsFrom (recordAt (now (s .entry))) (length (now (out .entry)) / 10) from) ⌝ }
 {
     let n = out.len();
     let mut p = from;

@@ -1,7 +1,6 @@
 -- What an exported call of the walk is in each of its cases.
 use Prim.Native.Nat.{ℕ, _≤_}
 use mathlib.Core.Path.{_≡_, refl, sym, _∙_, ap, subst}
-use mathlib.Core.Bool.{false}
 use mathlib.Core.List.{List, [], _∷_}
 use native.Mathlib.Omega.{arith}
 use lib.ListN.{length, getD, set}
@@ -15,7 +14,7 @@ use Rattle.walk.specs.declared.Walk.{Walk}
 use Rattle.walk_judge.specs.Record.{judgeAt}
 use Rattle.walk_candidate.specs.Candidate.{candidateAt}
 use Rattle.walk_judge.proofs.Soundness.{Inside, inside}
-use Rattle.walk.proofs.Turns.{step-fit}
+use Rattle.walk.proofs.Calls.{call-fit}
 use Rattle.mrt_lent.specs.Records.{recordValues}
 use Rattle.mrt_lent.proofs.Walks.{walk-served}
 use Rattle.mrt_lent.specs.Export.{mark}
@@ -37,7 +36,8 @@ set-same (a ∷ []) n z = refl
 set-same (a ∷ b ∷ l) n z = let e : b ≡ 0 = z in rw e
 
 -- a call on a walk that is lent, with room for an answer
-module _ (s ws out : List ℕ) (window k : ℕ) (p : 2 ≤ length ws) (m : getD ws 1 0 ≤ 1) (w : getD ws 0 0 ≤ length s) (h : 10 ≤ length out) where
+module _ (s ws out : List ℕ) (window k : ℕ)
+    (p : 2 ≤ length ws) (m : getD ws 1 0 ≤ 1) (w : getD ws 0 0 ≤ length s) (h : 10 ≤ length out) where
   pub next-stepped : {x : List ℕ × (List ℕ × ℕ)} → x ≡ steppedOut ws out (over s (step judgeAt candidateAt (walkIn ws) window k))
       → x ≡ nextOut s ws window k out
   next-stepped q = q ∙ walk-served _ _ _ _ _ _ p m w h
@@ -48,8 +48,9 @@ module _ (s ws out : List ℕ) (window k : ℕ) (p : 2 ≤ length ws) (m : getD 
   next-handed z f q {t} stored =
       let here : Inside (getD ws 0 0) (length s) (fit f) =
       subst (λ (j : Judged). Inside (getD ws 0 0) (length s) j) (sym q) (inside s (getD ws 0 0)) in
+      let unmarked = ne-eqb (getD ws 1 0) 1 (λ (e : getD ws 1 0 ≡ 1). omega arith) in
       next-stepped
       (ap (λ (l : List ℕ). (l, (t, 0))) (set-same ws (f .end) z)
       ∙ moved-stored ws out (at (f .end)) (handed (getD ws 0 0) f)
-      (step-fit judgeAt candidateAt s (walkIn ws) window k w (ne-eqb (getD ws 1 0) 1 (λ (e : getD ws 1 0 ≡ 1). omega arith)) (λ e. omega (arith, here .0, here .1)) f q)
+      (call-fit judgeAt candidateAt s window k (walkIn ws) w unmarked (λ e. omega (arith, here .0, here .1)) f q)
       refl (ap (λ (l : List ℕ). (l, 0)) stored))

@@ -18,6 +18,7 @@ use walk_step::WalkAnswer;
 
 // The next answer of a walk that is lent as its position and its finished mark. Room for every answer is asked for before the
 // walk moves, so that no answer is lost.
+// A record that passes is the usual answer: it is handed out first, and needs nothing of the search.
 #[no_mangle]
 pub extern "C" fn mrt_next(
     s: &[u8],
@@ -26,7 +27,8 @@ pub extern "C" fn mrt_next(
     asked: u8,
     out: &mut [u64],
 ) -> u32
-    ensures answer { λ r. ⌜ (now (walk .exit), (now (out .exit), r)) ≡ nextOut (now (s .entry)) (now (walk .entry)) window asked (now (out .entry)) ⌝ }
+    ensures answer { λ r. ⌜ (now (walk .exit), (now (out .exit), r))
+        ≡ nextOut (now (s .entry)) (now (walk .entry)) window asked (now (out .entry)) ⌝ }
 {
     if walk.len() < 2 {
         return 8;
@@ -43,7 +45,6 @@ pub extern "C" fn mrt_next(
         return 9;
     }
     if finished == 0 {
-        // A record that passes is the usual answer, and needs nothing of the search.
         if let Verdict::Fit {
             header,
             wire,
@@ -62,7 +63,9 @@ pub extern "C" fn mrt_next(
 // A step of the walk, whatever its answer, and the walk moved.
 fn take_step(s: &[u8], walk: &mut [u64], window: usize, asked: u8, out: &mut [u64]) -> u32
     requires { ⌜ 2 ≤ length (now walk) ⌝ }
-    ensures { λ r. ⌜ (now (walk .exit), (now (out .exit), r)) ≡ steppedOut (now (walk .entry)) (now (out .entry)) (over (now (s .entry)) (step judgeAt candidateAt (walkIn (now (walk .entry))) window asked)) ⌝ }
+    ensures { λ r. ⌜ (now (walk .exit), (now (out .exit), r))
+        ≡ steppedOut (now (walk .entry)) (now (out .entry))
+        (over (now (s .entry)) (step judgeAt candidateAt (walkIn (now (walk .entry))) window asked)) ⌝ }
 {
     let before = Walk {
         position: walk[0] as usize,

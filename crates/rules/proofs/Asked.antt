@@ -1,5 +1,5 @@
 -- What rules answer over a stream: one after another, and over what is left. Proved once, for every rule.
-use Prim.Native.Nat.{ℕ, _+_, _-_, _<_, _≤_}
+use Prim.Native.Nat.{ℕ, _+_, _≤_}
 use mathlib.Core.Path.{_≡_, refl, sym, _∙_, ap}
 use mathlib.Core.Bool.{Bool, true, false, cond}
 use mathlib.Core.List.{List}
@@ -25,16 +25,6 @@ over-bind s g (has m a b) = by-test (leb m (length s)) (over-bind s g a) (over-b
 over-bind s g (number at n f) = over-bind s g (f (beAt s at n))
 over-bind s g (octets at n f) = over-bind s g (f (part s at n))
 
--- a question of length, answered
-module _ {A : Type 0} (s : List ℕ) (a : Ask A) (b : ℕ → Ask A) {m : ℕ} where
-  pub has-yes : m ≤ length s → over s (has m a b) ≡ over s a
-  unfolding over
-  has-yes h = simp (le-leb _ _ h)
-
-  pub has-not : length s < m → over s (has m a b) ≡ over s (b (length s))
-  unfolding over
-  has-not h = simp (lt-leb _ _ h)
-
 -- the same questions further on are the questions of what is left
 module _ (s : List ℕ) (p : ℕ) (l : p ≤ length s) where
   leb-past : (m : ℕ) (t : Bool) → leb m (length (drop p s)) ≡ t → leb (p + m) (length s) ≡ t
@@ -46,4 +36,5 @@ module _ (s : List ℕ) (p : ℕ) (l : p ≤ length s) where
   over-past (done x) = refl
   over-past (has m x y) = rw (leb-past m _ refl, ← length-drop p s, over-past x, over-past (y (length (drop p s)))) refl
   over-past (number at n f) = over-past (f (beAt s (p + at) n)) ∙ ap (λ (v : ℕ). over (drop p s) (f v)) (sym (be-drop s p at n))
-  over-past (octets at n f) = over-past (f (part s (p + at) n)) ∙ ap (λ (r : List ℕ). over (drop p s) (f (take n r))) (sym (drop-drop at p s))
+  over-past (octets at n f) =
+      over-past (f (part s (p + at) n)) ∙ ap (λ (r : List ℕ). over (drop p s) (f (take n r))) (sym (drop-drop at p s))

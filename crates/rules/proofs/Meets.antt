@@ -44,9 +44,11 @@ module _ {A : Type 0} (P : Bool → ℕ → A → Type 0) where
   unfolding over
   meets-over s b m (done x) l h = record { met = b; bytes = m; within = l; holds = h }
   meets-over s b m (has k x y) l h =
-      by-test (leb k (length s)) refl (λ c. meets-over s b (max m k) x c (h .0)) (λ c. meets-over s true (length s) (y (length s)) (omega arith) (h .1 (length s) c))
+      by-test (leb k (length s)) refl (λ c. meets-over s b (max m k) x c (h .0))
+      (λ c. meets-over s true (length s) (y (length s)) (omega arith) (h .1 (length s) c))
     where
-      by-test : (t : Bool) → leb k (length s) ≡ t → (max m k ≤ length s → Over s x) → (length s < k → Over s (y (length s))) → Over s (has k x y)
+      by-test : (t : Bool) → leb k (length s) ≡ t → (max m k ≤ length s → Over s x) → (length s < k → Over s (y (length s)))
+          → Over s (has k x y)
       by-test true t p q =
           let c : k ≤ length s = leb-true _ _ t in
           let r = p (omega arith) in

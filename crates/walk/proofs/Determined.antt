@@ -1,5 +1,5 @@
 -- What a whole walk promises leaves one list of answers: no two lists have it for the same stream, window and asked number.
-use Prim.Native.Nat.{ℕ, zero, suc, _+_, _<_, _≤_}
+use Prim.Native.Nat.{ℕ, zero, suc, _<_, _≤_}
 use mathlib.Core.Path.{_≡_, refl, sym, _∙_, ap}
 use mathlib.Core.Bool.{Bool, true, false}
 use mathlib.Core.List.{List, [], _∷_}
@@ -10,8 +10,8 @@ use borrow.Author.Tests.{leb-true, leb-false}
 use Rattle.rules.specs.Ask.{Ask, over}
 use Rattle.header.specs.Frame.{Framing}
 use Rattle.walk.specs.Judged.{Judged, fit, off, cut, Candidate, stands}
-use Rattle.walk.specs.Step.{Answer, handed, gap, end, refused, asked}
-use Rattle.walk.specs.Promises.{Covers, Passed, RunTo, Confirms, Off, Scans, unframed, unconfirmed, RowAt, NoRow}
+use Rattle.walk.specs.Step.{Answer, handed, gap, end, refused}
+use Rattle.walk.specs.Promises.{Covers, Passed, RunTo, Confirms, Off, Scans, unframed, unconfirmed}
 use Rattle.walk.specs.Promises.{Evident, Ends, own, least, none, Shut, Sought, Promised}
 use Rattle.walk.proofs.Sound.{Sound}
 use Rattle.walk.proofs.Tries.{fit-unique}

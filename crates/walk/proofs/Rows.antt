@@ -1,18 +1,25 @@
 -- Rows of candidates, and the least offset where one stands.
 use Prim.Native.Nat.{ℕ, zero, suc, _+_, _<_, _≤_}
-use mathlib.Core.Path.{_≡_, refl, sym, _∙_}
+use mathlib.Core.Path.{_≡_, refl, _∙_}
 use mathlib.Core.Bool.{Bool, true, false, cond}
 use mathlib.Core.List.{List}
 use native.Mathlib.Omega.{arith}
 use lib.Dec.{eqb}
 use borrow.Author.Tests.{eq-eqb, eqb-true, eqb-false}
-use Rattle.rules.specs.Ask.{Ask, done, _>>=_, over}
+use Rattle.rules.specs.Ask.{Ask, done, over}
 use Rattle.rules.proofs.Asked.{over-bind}
 use Rattle.walk.specs.Judged.{Candidate, stands, fails}
 use Rattle.walk.specs.Step.{Row, whole, broken, Found, found, nowhere, whenOf, whenWhole, rowFrom, rowOn, row, scan}
 use Rattle.walk.specs.Promises.{RowOf, RowAt}
 
 module _ (candidate : ℕ → Ask Candidate) (s : List ℕ) where
+  -- what stands at p: a row of n more candidates after the first, and the first of d such rows
+  abbrev row-here : ℕ → ℕ → Row
+  row-here n p = over s (row candidate n p)
+
+  abbrev scan-here : ℕ → ℕ → ℕ → Found
+  scan-here n p d = over s (scan candidate n p d)
+
   -- a row that the rule finds is a row
   row-of : (n f v p u : ℕ) → over s (rowFrom candidate n f v p) ≡ whole u → RowOf candidate s f n p
   unfolding rowFrom over whenOf
@@ -23,7 +30,8 @@ module _ (candidate : ℕ → Ask Candidate) (s : List ℕ) where
           → ((e : ℕ) → over s (rowFrom candidate n f v e) ≡ whole u → RowOf candidate s f n e) → RowOf candidate s f (suc n) p
       by-candidate (stands g w e) q h ih = by-family (eqb f g) refl h
         where
-          by-family : (t : Bool) → eqb f g ≡ t → over s (cond t (rowFrom candidate n f v e) (done broken)) ≡ whole u → RowOf candidate s f (suc n) p
+          by-family : (t : Bool) → eqb f g ≡ t → over s (cond t (rowFrom candidate n f v e) (done broken)) ≡ whole u
+              → RowOf candidate s f (suc n) p
           by-family true t h = (w, e, rw (eqb-true f g t) q, ih e h)
           by-family false t h = absurd (let z : _≡_ {A = ℕ} 0 1 = cc in omega arith)
       by-candidate fails q h ih = absurd (let z : _≡_ {A = ℕ} 0 1 = cc in omega arith)
@@ -34,7 +42,7 @@ module _ (candidate : ℕ → Ask Candidate) (s : List ℕ) where
   of-row zero f v p r = refl
   of-row (suc n) f v p r = over-bind s _ (candidate p) ∙ simp (r .2, eq-eqb f f refl) (of-row n f v (r .1) (r .3))
 
-  pub row-at : (n p v : ℕ) → over s (row candidate n p) ≡ whole v → RowAt candidate s (suc n) p
+  pub row-at : (n p v : ℕ) → row-here n p ≡ whole v → RowAt candidate s (suc n) p
   unfolding row rowOn over
   row-at n p v h = by-candidate (over s (candidate p)) refl (rw (over-bind s _ (candidate p)) at h)
     where
@@ -42,38 +50,42 @@ module _ (candidate : ℕ → Ask Candidate) (s : List ℕ) where
       by-candidate (stands f w e) q h = (f, (w, e, q, row-of n f w e v h))
       by-candidate fails q h = absurd (let z : _≡_ {A = ℕ} 0 1 = cc in omega arith)
 
-  pub at-row : (n p : ℕ) (r : RowAt candidate s (suc n) p) → over s (row candidate n p) ≡ whole (r .1 .0)
+  pub at-row : (n p : ℕ) (r : RowAt candidate s (suc n) p) → row-here n p ≡ whole (r .1 .0)
   unfolding row rowOn
   at-row n p r = over-bind s _ (candidate p) ∙ rw (r .1 .2) (of-row n (r .0) (r .1 .0) (r .1 .1) (r .1 .3))
 
-  pub no-row : (n p : ℕ) → over s (row candidate n p) ≡ broken → ¬ RowAt candidate s (suc n) p
+  pub no-row : (n p : ℕ) → row-here n p ≡ broken → ¬ RowAt candidate s (suc n) p
   no-row n p h r = let q = at-row n p r in let z : _≡_ {A = ℕ} 0 1 = cc in omega arith
 
   -- the least of the d offsets from p on
   pub record Least (n p d o v : ℕ) : Type 0 where
     pub low : p ≤ o
     pub high : o < p + d
-    pub here : over s (row candidate n o) ≡ whole v
-    pub before : (q : ℕ) → p ≤ q → q < o → over s (row candidate n q) ≡ broken
+    pub here : row-here n o ≡ whole v
+    pub before : (q : ℕ) → p ≤ q → q < o → row-here n q ≡ broken
+
+  -- the scan of suc d offsets from p on, once the row at p is known
+  abbrev scanFrom : ℕ → ℕ → ℕ → Row → Ask Found
+  scanFrom n p d = whenWhole (λ (w : ℕ). done (found p w)) (λ (u : Unit {0}). scan candidate n (suc p) d)
 
   -- no row at p, and none after it: none from p on
-  broken-from : (n p q : ℕ) → over s (row candidate n p) ≡ broken → (suc p ≤ q → over s (row candidate n q) ≡ broken) → p ≤ q → over s (row candidate n q) ≡ broken
+  broken-from : (n p q : ℕ) → row-here n p ≡ broken → (suc p ≤ q → row-here n q ≡ broken) → p ≤ q → row-here n q ≡ broken
   broken-from n p q here after l = by-place (eqb p q) refl
     where
-      by-place : (t : Bool) → eqb p q ≡ t → over s (row candidate n q) ≡ broken
+      by-place : (t : Bool) → eqb p q ≡ t → row-here n q ≡ broken
       by-place true t = rw (← eqb-true p q t) here
       by-place false t = let e = eqb-false p q t in after (omega arith)
 
-  pub scan-found : (n d p o v : ℕ) → over s (scan candidate n p d) ≡ found o v → Least n p d o v
+  pub scan-found : (n d p o v : ℕ) → scan-here n p d ≡ found o v → Least n p d o v
   unfolding scan over whenWhole
   scan-found n zero p o v h = absurd (let z : _≡_ {A = ℕ} 0 1 = cc in omega arith)
-  scan-found n (suc d) p o v h = by-row (over s (row candidate n p)) refl (rw (over-bind s _ (row candidate n p)) at h) (scan-found n d (suc p) o v)
+  scan-found n (suc d) p o v h = by-row (row-here n p) refl (rw (over-bind s _ (row candidate n p)) at h) (scan-found n d (suc p) o v)
     where
-      by-row : (r : Row) → over s (row candidate n p) ≡ r → over s (whenWhole (λ (w : ℕ). done (found p w)) (λ (u : Unit {0}). scan candidate n (suc p) d) r) ≡ found o v
-          → (over s (scan candidate n (suc p) d) ≡ found o v → Least n (suc p) d o v) → Least n p (suc d) o v
+      by-row : (r : Row) → row-here n p ≡ r → over s (scanFrom n p d r) ≡ found o v
+          → (scan-here n (suc p) d ≡ found o v → Least n (suc p) d o v) → Least n p (suc d) o v
       by-row (whole w) q h ih =
           let e : p ≡ o = cc in
-          let i : over s (row candidate n o) ≡ whole v = cc in
+          let i : row-here n o ≡ whole v = cc in
           record { low = omega arith; high = omega arith; here = i; before = λ u a b. absurd (omega arith) }
       by-row broken q h ih =
           let l = ih h in
@@ -84,12 +96,13 @@ module _ (candidate : ℕ → Ask Candidate) (s : List ℕ) where
             before = λ u a b. broken-from n p u q (λ i. l .before u i b) a;
           }
 
-  pub scan-nowhere : (n d p : ℕ) → over s (scan candidate n p d) ≡ nowhere → (q : ℕ) → p ≤ q → q < p + d → over s (row candidate n q) ≡ broken
+  pub scan-nowhere : (n d p : ℕ) → scan-here n p d ≡ nowhere → (q : ℕ) → p ≤ q → q < p + d → row-here n q ≡ broken
   unfolding scan over whenWhole
   scan-nowhere n zero p h q a b = absurd (omega arith)
-  scan-nowhere n (suc d) p h q a b = by-row (over s (row candidate n p)) refl (rw (over-bind s _ (row candidate n p)) at h) (scan-nowhere n d (suc p))
+  scan-nowhere n (suc d) p h q a b = by-row (row-here n p) refl (rw (over-bind s _ (row candidate n p)) at h) (scan-nowhere n d (suc p))
     where
-      by-row : (r : Row) → over s (row candidate n p) ≡ r → over s (whenWhole (λ (w : ℕ). done (found p w)) (λ (u : Unit {0}). scan candidate n (suc p) d) r) ≡ nowhere
-          → (over s (scan candidate n (suc p) d) ≡ nowhere → (u : ℕ) → suc p ≤ u → u < suc p + d → over s (row candidate n u) ≡ broken) → over s (row candidate n q) ≡ broken
+      by-row : (r : Row) → row-here n p ≡ r → over s (scanFrom n p d r) ≡ nowhere
+          → (scan-here n (suc p) d ≡ nowhere → (u : ℕ) → suc p ≤ u → u < suc p + d → row-here n u ≡ broken)
+          → row-here n q ≡ broken
       by-row (whole w) e h ih = absurd (let z : _≡_ {A = ℕ} 0 1 = cc in omega arith)
       by-row broken e h ih = broken-from n p q e (λ i. ih h q i (omega arith)) a

@@ -1,7 +1,7 @@
 -- One turn of each loop of the walk, for code: what a rule is once the next judgement is known.
 use Prim.Native.Nat.{ℕ, zero, suc, _+_, _-_, _<_, _≤_}
 use mathlib.Core.Path.{_≡_, refl, sym, _∙_}
-use mathlib.Core.Bool.{true, false, cond}
+use mathlib.Core.Bool.{cond}
 use mathlib.Core.List.{List}
 use native.Mathlib.Omega.{arith}
 use native.Mathlib.Nat.{sub-zero}
@@ -12,8 +12,8 @@ use Rattle.rules.specs.Ask.{Ask, done, over}
 use Rattle.rules.proofs.Asked.{over-bind}
 use Rattle.header.specs.Frame.{Framing}
 use Rattle.walk.specs.Judged.{Judged, fit, off, cut, Candidate, stands, fails}
-use Rattle.walk.specs.Step.{handed, gap, end, refused, moved, stopped, asked, passed, failed, whole, broken, found, nowhere, whenFit, whenOf, whenWhole, aligned, rowFrom, rowOn, row, scan, unfound, leave, scanned, resume, ownEnd, judged, going, step}
-use Rattle.walk.specs.declared.Walk.{Walk}
+use Rattle.walk.specs.Step.{passed, failed, whole, broken, found, nowhere, whenFit, whenOf, whenWhole}
+use Rattle.walk.specs.Step.{aligned, rowFrom, rowOn, row, scan}
 
 -- records from a record's own end on
 module _ (judge : ℕ → Ask Judged) (s : List ℕ) where
@@ -27,17 +27,23 @@ module _ (judge : ℕ → Ask Judged) (s : List ℕ) where
     aligned-end l = simp (lt-leb (suc p) (length s) (omega arith))
 
     module _ (l : p < length s) where
-      pub aligned-fit : {f : Framing} → over s (judge p) ≡ fit f → over s (aligned judge (suc n) m p) ≡ over s (aligned judge n (suc m) (f .end))
-      unfolding aligned over whenFit
-      aligned-fit q = simp (le-leb (suc p) (length s) l, over-bind s (whenFit (aligned judge n (suc m)) (done failed)) (judge p), q)
+      aligned-judged : {j : Judged} → over s (judge p) ≡ j
+          → over s (aligned judge (suc n) m p) ≡ over s (whenFit (aligned judge n (suc m)) (done failed) j)
+      unfolding aligned over
+      aligned-judged q = simp (le-leb (suc p) (length s) l) (over-bind s _ (judge p) ∙ rw q)
+
+      pub aligned-fit : {f : Framing} → over s (judge p) ≡ fit f
+          → over s (aligned judge (suc n) m p) ≡ over s (aligned judge n (suc m) (f .end))
+      unfolding whenFit
+      aligned-fit q = aligned-judged q
 
       pub aligned-off : {r e : ℕ} → over s (judge p) ≡ off r e → failed ≡ over s (aligned judge (suc n) m p)
-      unfolding aligned over whenFit
-      aligned-off q = simp (le-leb (suc p) (length s) l, over-bind s (whenFit (aligned judge n (suc m)) (done failed)) (judge p), q)
+      unfolding whenFit over
+      aligned-off q = sym (aligned-judged q)
 
       pub aligned-cut : {r : ℕ} → over s (judge p) ≡ cut r → failed ≡ over s (aligned judge (suc n) m p)
-      unfolding aligned over whenFit
-      aligned-cut q = simp (le-leb (suc p) (length s) l, over-bind s (whenFit (aligned judge n (suc m)) (done failed)) (judge p), q)
+      unfolding whenFit over
+      aligned-cut q = sym (aligned-judged q)
 
 -- rows of candidates, and the scan for one
 module _ (candidate : ℕ → Ask Candidate) (s : List ℕ) where
@@ -88,19 +94,21 @@ module _ (candidate : ℕ → Ask Candidate) (s : List ℕ) where
 
     -- one more stands, of the family g
     module _ {g w e : ℕ} where
-      pub row-other : (i f v p : ℕ) → i ≤ n → Stood i f v p → over s (candidate p) ≡ stands g w e → {f' : ℕ} → f' ≡ cond (eqb i 0) g f → (g ≡ f' → ⊥)
-          → broken ≡ over s (row candidate n o)
+      pub row-other : (i f v p : ℕ) → i ≤ n → Stood i f v p → over s (candidate p) ≡ stands g w e
+          → {f' : ℕ} → f' ≡ cond (eqb i 0) g f → (g ≡ f' → ⊥) → broken ≡ over s (row candidate n o)
       unfolding Stood
       row-other zero f v p l h q x d = absurd (d (sym x))
       row-other (suc i) f v p l h q x d = sym (h ∙ row-parts n i f v p l q (λ y. d (y ∙ sym (x ∙ later i g f))))
 
-      pub row-turned : (i f v p : ℕ) → i ≤ n → Stood i f v p → over s (candidate p) ≡ stands g w e → {f' v' : ℕ} → f' ≡ cond (eqb i 0) g f
-          → v' ≡ cond (eqb i 0) w v → g ≡ f' → over s (row candidate n o) ≡ over s (rowFrom candidate (n - i) f' v' e)
+      pub row-turned : (i f v p : ℕ) → i ≤ n → Stood i f v p → over s (candidate p) ≡ stands g w e
+          → {f' v' : ℕ} → f' ≡ cond (eqb i 0) g f → v' ≡ cond (eqb i 0) w v → g ≡ f'
+          → over s (row candidate n o) ≡ over s (rowFrom candidate (n - i) f' v' e)
       unfolding Stood
       row-turned zero f v p l h q x y d = rw (x, y, sub-zero) (row-first n o (rw h at q))
       row-turned (suc i) f v p l h q x y d = rw (x ∙ later i g f, y ∙ later i w v) (h ∙ row-goes n i f v p l q (d ∙ x ∙ later i g f))
 
-    pub row-whole : (i f v p : ℕ) → n ≤ i → over s (row candidate n o) ≡ over s (rowFrom candidate (n - i) f v p) → whole v ≡ over s (row candidate n o)
+    pub row-whole : (i f v p : ℕ) → n ≤ i → over s (row candidate n o) ≡ over s (rowFrom candidate (n - i) f v p)
+        → whole v ≡ over s (row candidate n o)
     unfolding rowFrom over
     row-whole i f v p l h = let z : n - i ≡ 0 = omega arith in sym (h ∙ rw z)
 
@@ -137,7 +145,8 @@ module _ (candidate : ℕ → Ask Candidate) (s : List ℕ) where
     unfolding Left Looks scan whenWhole
     scan-turned d o e h q = h ∙ over-bind s _ (row candidate n o) ∙ rw (q, e)
 
-    pub scan-left : (d o : ℕ) {v : ℕ} → Looks d o → over s (row candidate n o) ≡ whole v → found o v ≡ over s (scan candidate n (suc p) window)
+    pub scan-left : (d o : ℕ) {v : ℕ} → Looks d o → over s (row candidate n o) ≡ whole v
+        → found o v ≡ over s (scan candidate n (suc p) window)
     unfolding Looks scan whenWhole over
     scan-left d o h q = sym (h ∙ over-bind s _ (row candidate n o) ∙ rw q)
 
@@ -145,91 +154,11 @@ module _ (candidate : ℕ → Ask Candidate) (s : List ℕ) where
   scan-none : (n d p : ℕ) → ((q : ℕ) → p ≤ q → over s (candidate q) ≡ fails) → over s (scan candidate n p d) ≡ nowhere
   unfolding scan whenWhole over
   scan-none n zero p f = refl
-  scan-none n (suc d) p f = over-bind s _ (row candidate n p) ∙ rw (row-fails n p (f p (omega arith))) (scan-none n d (suc p) (λ q l. f q (omega arith)))
+  scan-none n (suc d) p f =
+      over-bind s _ (row candidate n p)
+      ∙ rw (row-fails n p (f p (omega arith))) (scan-none n d (suc p) (λ q l. f q (omega arith)))
 
-  pub scan-past : (n p window d : ℕ) → Left n p window d → ((q : ℕ) → p + d < q → over s (candidate q) ≡ fails) → nowhere ≡ over s (scan candidate n (suc p) window)
+  pub scan-past : (n p window d : ℕ) → Left n p window d → ((q : ℕ) → p + d < q → over s (candidate q) ≡ fails)
+      → nowhere ≡ over s (scan candidate n (suc p) window)
   unfolding Left
   scan-past n p window d h f = sym (h ∙ scan-none n (window - d) (suc (p + d)) f)
-
--- no offset in the window
-module _ (s : List ℕ) (p r : ℕ) where
-  pub unfound-none : (window : ℕ) → window ≡ 0 → stopped p (refused 11 p window r) ≡ over s (unfound p window r)
-  unfolding unfound over
-  unfound-none window e = rw e
-
-  unfound-gap : (window : ℕ) → (window ≡ 0 → ⊥) → length s < p + (window + 6) → moved (length s) (gap p (length s) r 5 0) ≡ over s (unfound p window r)
-  unfolding unfound over
-  unfound-gap zero z l = absurd (z refl)
-  unfound-gap (suc w) z l = simp (lt-leb (p + (suc w + 6)) (length s) l)
-
-  unfound-window : (window : ℕ) → (window ≡ 0 → ⊥) → p + (window + 6) ≤ length s → stopped p (refused 11 p window r) ≡ over s (unfound p window r)
-  unfolding unfound over
-  unfound-window zero z l = absurd (z refl)
-  unfound-window (suc w) z l = simp (le-leb (p + (suc w + 6)) (length s) l)
-
-  -- code compares what is left
-  module _ (l : p < length s) (window : ℕ) (z : window ≡ 0 → ⊥) where
-    pub unfound-near : length s - p < 6 → moved (length s) (gap p (length s) r 5 0) ≡ over s (unfound p window r)
-    unfound-near m = unfound-gap window z (omega arith)
-
-    module _ (m : 6 ≤ length s - p) where
-      pub unfound-within : length s - p - 6 < window → moved (length s) (gap p (length s) r 5 0) ≡ over s (unfound p window r)
-      unfound-within o = unfound-gap window z (omega arith)
-
-      pub unfound-full : window ≤ length s - p - 6 → stopped p (refused 11 p window r) ≡ over s (unfound p window r)
-      unfound-full o = unfound-window window z (omega arith)
-
--- one call, part by part
-module _ (judge : ℕ → Ask Judged) (candidate : ℕ → Ask Candidate) (s : List ℕ) (p window k : ℕ) where
-  module _ (r : ℕ) where
-    pub scanned-found : {o v : ℕ} → found o v ≡ over s (scan candidate (k - 1) (suc p) window) → moved o (gap p o r v (asked k)) ≡ over s (scanned judge candidate p window k r)
-    unfolding scanned leave over
-    scanned-found q = sym (over-bind s (leave p window k r) (scan candidate (k - 1) (suc p) window) ∙ rw (← q))
-
-    pub scanned-nowhere : nowhere ≡ over s (scan candidate (k - 1) (suc p) window) → over s (unfound p window r) ≡ over s (scanned judge candidate p window k r)
-    unfolding scanned leave
-    scanned-nowhere q = sym (over-bind s (leave p window k r) (scan candidate (k - 1) (suc p) window) ∙ rw (← q))
-
-    module _ (e : ℕ) where
-      pub own-passed : {m : ℕ} → passed m ≡ over s (aligned judge (asked k) 0 e) → moved e (gap p e r 4 m) ≡ over s (ownEnd judge candidate p window k r e)
-      unfolding ownEnd resume over
-      own-passed q = sym (over-bind s (resume judge candidate p window k r e) (aligned judge (asked k) 0 e) ∙ rw (← q))
-
-      pub own-failed : failed ≡ over s (aligned judge (asked k) 0 e) → over s (scanned judge candidate p window k r) ≡ over s (ownEnd judge candidate p window k r e)
-      unfolding ownEnd resume
-      own-failed q = sym (over-bind s (resume judge candidate p window k r e) (aligned judge (asked k) 0 e) ∙ rw (← q))
-
-module _ (judge : ℕ → Ask Judged) (candidate : ℕ → Ask Candidate) (s : List ℕ) (w : Walk) (window k : ℕ) where
-  pub step-beyond : length s < w .position → record { walk = w; answer = refused 8 0 0 0 } ≡ over s (step judge candidate w window k)
-  unfolding step over
-  step-beyond l = simp (lt-leb (w .position) (length s) l)
-
-  module _ (l : w .position ≤ length s) where
-    pub step-finished : w .finished ≡ true → stopped (w .position) (end (w .position)) ≡ over s (step judge candidate w window k)
-    unfolding step over
-    step-finished f = simp (le-leb (w .position) (length s) l, f)
-
-    module _ (f : w .finished ≡ false) where
-      pub step-end : length s ≡ w .position → stopped (w .position) (end (w .position)) ≡ over s (step judge candidate w window k)
-      unfolding step going over
-      step-end e = simp (le-leb (w .position) (length s) l, f, lt-leb (suc (w .position)) (length s) (omega arith))
-
-      module _ (n : length s ≡ w .position → ⊥) {j : Judged} (q : j ≡ over s (judge (w .position))) where
-        step-judged : over s (judged judge candidate (w .position) window k j) ≡ over s (step judge candidate w window k)
-        unfolding step going over
-        step-judged =
-            let m : w .position < length s = omega arith in
-            simp (le-leb (w .position) (length s) l, f, le-leb (suc (w .position)) (length s) m, over-bind s (judged judge candidate (w .position) window k) (judge (w .position)), ← q)
-
-      module _ (n : length s ≡ w .position → ⊥) where
-        pub step-fit : (g : Framing) → fit g ≡ over s (judge (w .position)) → moved (g .end) (handed (w .position) g) ≡ over s (step judge candidate w window k)
-        unfolding judged over
-        step-fit g q = step-judged n q
-
-        pub step-off : (r e : ℕ) → off r e ≡ over s (judge (w .position)) → over s (ownEnd judge candidate (w .position) window k r e) ≡ over s (step judge candidate w window k)
-        unfolding judged
-        step-off r e q = step-judged n q
-
-        pub step-cut : (r : ℕ) → cut r ≡ over s (judge (w .position)) → over s (scanned judge candidate (w .position) window k r) ≡ over s (step judge candidate w window k)
-        unfolding judged
-        step-cut r q = step-judged n q

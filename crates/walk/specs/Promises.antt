@@ -158,7 +158,7 @@ module _ (judge : ℕ → Ask Judged) (candidate : ℕ → Ask Candidate) (s : L
   Sought window k (end a ∷ l) = Sought window k l
   Sought window k (refused x a w r ∷ l) = (w ≡ window) × Shut window k a r × Sought window k l
 
--- DEMAND 3, of the answers l to a fresh walk over a stream s.
+-- PROMISED. All of these, of the answers l to a fresh walk over a stream s.
 pub record Promised (judge : ℕ → Ask Judged) (candidate : ℕ → Ask Candidate) (s : List ℕ) (window k : ℕ) (l : List Answer)
     : Type 0 where
   pub covers : Covers (length s) 0 l

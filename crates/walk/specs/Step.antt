@@ -1,6 +1,6 @@
 -- One call of the recovering walk (01, Walk, confirmation, scan), over any way to judge a record and a candidate.
 use Prim.Native.Nat.{ℕ, zero, suc, _+_, _-_}
-use mathlib.Core.Bool.{Bool, true, false, cond}
+use mathlib.Core.Bool.{true, false, cond}
 use lib.Dec.{eqb}
 use Rattle.rules.specs.Ask.{Ask, done, has, _>>=_}
 use Rattle.header.specs.Frame.{Framing}

@@ -1,11 +1,11 @@
 -- The candidate test in each of its cases, and that a candidate is a record that passes.
-use Prim.Native.Nat.{ℕ, _+_, _-_, _*_, _<_, _≤_}
+use Prim.Native.Nat.{ℕ, _+_, _*_, _<_, _≤_}
 use mathlib.Core.Path.{_≡_, refl, sym, _∙_, ap}
-use mathlib.Core.Bool.{Bool, true, false, _&&_, and-false, not, cond}
+use mathlib.Core.Bool.{Bool, true, false, _&&_, and-true, and-false, not, cond}
 use mathlib.Core.List.{List}
 use native.Mathlib.Omega.{arith}
 use lib.ListN.{length, drop, getD}
-use lib.Dec.{leb, ltb, eqb}
+use lib.Dec.{leb, eqb}
 use borrow.Author.Tests.{lt-leb, le-leb, lt-ltb, le-ltb, leb-true, leb-false, eq-eqb, ne-eqb, eqb-true}
 use Rattle.octets.specs.Octets.{beAt}
 use Rattle.octets.proofs.Numbers.{be-drop, be-halves, be-one}
@@ -64,50 +64,54 @@ module _ {j : Judged} where
   unfolding standing
   standing-fit e p q = rw (← e, p, q)
 
-positive : (n : ℕ) → (n ≡ 0 → ⊥) → 0 < n
-positive n h = omega arith
-
--- a length that no candidate has
-plausible-most : (k u n us : ℕ) → 65599 < n → plausible k u n us ≡ false
-unfolding plausible
-plausible-most k u n us l = simp (lt-leb n 65599 l, and-false)
-
--- what the header alone decides; f is its family
-module _ (k u n us : ℕ) {f : ℕ} (e : f ≡ family k) where
-  pub plausible-family : f ≡ 0 → false ≡ plausible k u n us
+-- what the header alone decides
+module _ (k u n us : ℕ) where
+  -- a length that no candidate has
+  pub plausible-long : 65599 < n → false ≡ plausible k u n us
   unfolding plausible
-  plausible-family z = simp (← e, eq-eqb _ _ z)
+  plausible-long l = simp (lt-leb n 65599 l, and-false)
 
-  module _ (g : f ≡ 0 → ⊥) where
-    pub plausible-long : 65599 < n → false ≡ plausible k u n us
+  -- nor such microseconds
+  pub plausible-late : 1000000 ≤ us → false ≡ plausible k u n us
+  unfolding plausible
+  plausible-late m = simp (le-ltb us 1000000 m, and-false)
+
+  -- f is its family
+  module _ {f : ℕ} (e : f ≡ family k) where
+    pub plausible-family : f ≡ 0 → false ≡ plausible k u n us
     unfolding plausible
-    plausible-long l = simp (← e, ne-eqb _ _ g, lt-leb _ _ l)
+    plausible-family z = simp (← e, eq-eqb _ _ z)
 
-    module _ (l : n ≤ 65599) where
-      pub plausible-late : 1000000 ≤ us → false ≡ plausible k u n us
+    module _ (g : f ≡ 0 → ⊥) (l : n ≤ 65599) (m : us < 1000000) where
+      pub plausible-message : (k ≡ 5 → ⊥) → not (eqb (asSize u) 0) ≡ plausible k u n us
       unfolding plausible
-      plausible-late m = simp (← e, ne-eqb _ _ g, le-leb _ _ l, le-ltb _ _ m)
+      plausible-message i = simp (← e, ne-eqb _ _ g, le-leb _ _ l, lt-ltb _ _ m, ne-eqb _ _ i, and-true)
 
-      module _ (m : us < 1000000) where
-        pub plausible-message : (k ≡ 5 → ⊥) → not (eqb (asSize u) 0) ≡ plausible k u n us
-        unfolding plausible
-        plausible-message i = simp (← e, ne-eqb _ _ g, le-leb _ _ l, lt-ltb _ _ m, ne-eqb _ _ i)
-
-        pub plausible-legacy : k ≡ 5 → {x : ℕ} → x ≡ legacy u n → eqb x 0 ≡ plausible k u n us
-        unfolding plausible
-        plausible-legacy i q = simp (← e, ne-eqb _ _ g, le-leb _ _ l, lt-ltb _ _ m, eq-eqb _ _ i, q)
+      pub plausible-legacy : k ≡ 5 → {x : ℕ} → x ≡ legacy u n → eqb x 0 ≡ plausible k u n us
+      unfolding plausible
+      plausible-legacy i {x} q =
+          by-test (eqb x 0) refl ∙ simp (← e, ne-eqb _ _ g, le-leb _ _ l, lt-ltb _ _ m, eq-eqb _ _ i, q, and-true)
+        where
+          -- 0 is not 6
+          by-test : (t : Bool) → eqb x 0 ≡ t → t ≡ (not (eqb x 6) && t)
+          by-test true t = let z : x ≡ 0 = eqb-true _ _ t in simp (ne-eqb x 6 (λ y. omega arith))
+          by-test false t = simp and-false
 
 -- whether a header may begin a candidate
+abbrev plausible-head : Heading → Bool
+plausible-head h = plausible (h .kind) (h .subtype) (h .stored) (h .micros)
+
 abbrev begins : Heading → Bool
-begins h = eqb (h .number) 0 && plausible (h .kind) (h .subtype) (h .stored) (h .micros)
+begins h = eqb (h .number) 0 && plausible-head h
 
 -- the test by the header and the judgement
 pub candidate-over : (s : List ℕ) (at : ℕ) → over s (candidate at) ≡ cond (begins (over s header)) (standing (over s (judge at))) fails
 unfolding candidate headed judge frame over
 candidate-over s at =
+    let judged = over-bind s verdict (header >>= framed at) ∙ ap (λ (f : Framing). over s (verdict f)) (over-bind s (framed at) header) in
     over-bind s (headed at) header
     ∙ by-test (begins (over s header))
-    ∙ ap (λ (j : Judged). cond (begins (over s header)) (standing j) fails) (sym (over-bind s verdict (header >>= framed at) ∙ ap (λ (f : Framing). over s (verdict f)) (over-bind s (framed at) header)))
+    ∙ ap (λ (j : Judged). cond (begins (over s header)) (standing j) fails) (sym judged)
   where
     by-test : (t : Bool) → over s (cond t (framed at (over s header) >>= verdict >>= λ j. done (standing j)) (done fails))
         ≡ cond t (standing (over s (verdict (over s (framed at (over s header)))))) fails
@@ -144,14 +148,18 @@ module _ (s : List ℕ) (p : ℕ) where
     not-begun : begins (over (drop p s) header) ≡ false → fails ≡ over s (candidateAt p)
     not-begun e = rw (candidate-left l, candidate-over (drop p s) p, e)
 
-    candidate-other : {k f : ℕ} → k ≡ beAt s (p + 4) 2 → f ≡ family k → f ≡ 0 → fails ≡ over s (candidateAt p)
-    candidate-other {k} {f} e g z = not-begun (by-number (eqb (over (drop p s) header .number) 0) refl)
+    -- nor does one that was read and is not plausible
+    not-plausible : (over (drop p s) header .number ≡ 0 → false ≡ plausible-head (over (drop p s) header)) → fails ≡ over s (candidateAt p)
+    not-plausible h = not-begun (by-number (eqb (over (drop p s) header .number) 0) refl)
       where
-        by-number : (t : Bool) → eqb (over (drop p s) header .number) 0 ≡ t → (t && plausible (over (drop p s) header .kind) (over (drop p s) header .subtype) (over (drop p s) header .stored) (over (drop p s) header .micros)) ≡ false
-        by-number true t =
-            let h : over (drop p s) header .kind ≡ k = header-kind (drop p s) (eqb-true _ _ t) ∙ be-drop s p 4 2 ∙ sym e in
-            sym (plausible-family (over (drop p s) header .kind) _ _ _ (g ∙ ap family (sym h)) z)
+        by-number : (t : Bool) → eqb (over (drop p s) header .number) 0 ≡ t → (t && plausible-head (over (drop p s) header)) ≡ false
+        by-number true t = sym (h (eqb-true _ _ t))
         by-number false t = refl
+
+    candidate-other : {k f : ℕ} → k ≡ beAt s (p + 4) 2 → f ≡ family k → f ≡ 0 → fails ≡ over s (candidateAt p)
+    candidate-other {k} e g z =
+        not-plausible (λ t. let h : over (drop p s) header .kind ≡ k = header-kind (drop p s) t ∙ be-drop s p 4 2 ∙ sym e in
+        plausible-family (over (drop p s) header .kind) _ _ _ (g ∙ ap family (sym h)) z)
 
     -- a type of 256 or more is of no family
     pub candidate-high : (getD s (p + 4) 0 ≡ 0 → ⊥) → fails ≡ over s (candidateAt p)
@@ -165,22 +173,18 @@ module _ (s : List ℕ) (p : ℕ) where
     candidate-low h a b =
         let e = type-octets in
         candidate-other refl
-        (family-rest (beAt s (p + 4) 2) (λ z. a (omega arith)) (λ z. b (omega arith) (omega arith)) (λ z. b (omega arith) (omega arith))) refl
+        (family-rest _ (λ z. a (omega arith)) (λ z. b (omega arith) (omega arith)) (λ z. b (omega arith) (omega arith))) refl
 
     -- a wire length that no candidate has
     candidate-long : {w : ℕ} → w ≡ beAt s (p + 8) 4 → 65603 < w → fails ≡ over s (candidateAt p)
-    candidate-long {w} e m = not-begun (by-number (eqb (over (drop p s) header .number) 0) refl)
-      where
-        by-number : (t : Bool) → eqb (over (drop p s) header .number) 0 ≡ t → (t && plausible (over (drop p s) header .kind) (over (drop p s) header .subtype) (over (drop p s) header .stored) (over (drop p s) header .micros)) ≡ false
-        by-number true t =
-            let h : beAt (drop p s) 8 4 ≤ over (drop p s) header .stored + 4 = header-stored (drop p s) (eqb-true _ _ t) in
-            let d : beAt (drop p s) 8 4 ≡ beAt s (p + 8) 4 = be-drop s p 8 4 in
-            plausible-most _ _ _ _ (omega arith)
-        by-number false t = refl
+    candidate-long e m =
+        not-plausible (λ t. let h : beAt (drop p s) 8 4 ≤ over (drop p s) header .stored + 4 = header-stored (drop p s) t in
+        let d : beAt (drop p s) 8 4 ≡ beAt s (p + 8) 4 = be-drop s p 8 4 in
+        plausible-long _ _ _ _ (omega arith))
 
     -- the same by the length's first two octets
     pub candidate-huge : (getD s (p + 8) 0 ≡ 0 → ⊥) → fails ≡ over s (candidateAt p)
-    candidate-huge h = let e = length-octets in let z = positive (getD s (p + 8) 0) h in candidate-long refl (omega arith)
+    candidate-huge h = let e = length-octets in candidate-long refl (omega arith)
 
     pub candidate-large : 1 < getD s (p + 9) 0 → fails ≡ over s (candidateAt p)
     candidate-large h = let e = length-octets in candidate-long refl (omega arith)
@@ -202,7 +206,9 @@ module _ (s : List ℕ) (p : ℕ) where
     candidate-implausible q = let l = read-within s p e in not-begun l (rw (read-there l, ← e, q))
 
     pub candidate-plausible : plausible k u n us ≡ true → standing (over s (judgeAt p)) ≡ over s (candidateAt p)
-    candidate-plausible q = let l = read-within s p e in rw (candidate-left l, candidate-over (drop p s) p, read-there l, ← e, q, judge-left s p l)
+    candidate-plausible q =
+        let l = read-within s p e in
+        rw (candidate-left l, candidate-over (drop p s) p, read-there l, ← e, q, judge-left s p l)
 
 -- THEOREM. A candidate is a record that the judgement accepts, with the same end, and its evidence is 1, 2 or 3.
 pub record Accepted (s : List ℕ) (p v e : ℕ) : Type 0 where
@@ -215,7 +221,8 @@ pub candidate-accepted : (s : List ℕ) (p f v e : ℕ) → over s (candidateAt 
 unfolding standing
 candidate-accepted s p f v e q = by-place (leb p (length s)) refl
   where
-    by-judged : p ≤ length s → (j : Judged) → over (drop p s) (judge p) ≡ j → (t : Bool) → cond t (standing j) fails ≡ stands f v e → Accepted s p v e
+    by-judged : p ≤ length s → (j : Judged) → over (drop p s) (judge p) ≡ j → (t : Bool) → cond t (standing j) fails ≡ stands f v e
+        → Accepted s p v e
     by-judged l (off r x) z true q = absurd (let y : _≡_ {A = ℕ} 0 1 = cc in omega arith)
     by-judged l (cut r) z true q = absurd (let y : _≡_ {A = ℕ} 0 1 = cc in omega arith)
     by-judged l (off r x) z false q = absurd (let y : _≡_ {A = ℕ} 0 1 = cc in omega arith)
@@ -230,8 +237,12 @@ candidate-accepted s p f v e q = by-place (leb p (length s)) refl
     by-place : (t : Bool) → leb p (length s) ≡ t → Accepted s p v e
     by-place true t =
         let l : p ≤ length s = leb-true _ _ t in
-        by-judged l (over (drop p s) (judge p)) refl (begins (over (drop p s) header)) (sym (candidate-over (drop p s) p) ∙ sym (candidate-left s p l) ∙ q)
-    by-place false t = absurd (let z = candidate-near s p (let m : length s < p = leb-false _ _ t in omega arith) in let y : _≡_ {A = ℕ} 0 1 = cc in omega arith)
+        by-judged l (over (drop p s) (judge p)) refl (begins (over (drop p s) header))
+        (sym (candidate-over (drop p s) p) ∙ sym (candidate-left s p l) ∙ q)
+    by-place false t =
+        let m : length s < p = leb-false _ _ t in
+        let z = candidate-near s p (omega arith) in
+        absurd (let y : _≡_ {A = ℕ} 0 1 = cc in omega arith)
 
 -- the walk may rest on this judgement
 pub sound : Sound judgeAt candidateAt

@@ -1,8 +1,7 @@
 -- Two answers that say the same are equal: the promises allow one result.
 use Prim.Native.Nat.{ℕ}
-use mathlib.Core.Path.{_≡_, refl, sym, ap}
+use mathlib.Core.Path.{_≡_, refl}
 use native.Mathlib.Omega.{arith}
-use Rattle.walk.specs.Judged.{Candidate, stands, fails}
 use Rattle.walk_candidate.specs.Candidate.{candidacy}
 use Rattle.walk_candidate.specs.declared.CandidateAnswer.{CandidateAnswer}
 use Rattle.walk_candidate.specs.declared.CandidateAnswer.the-variants.{Stands, Fails}

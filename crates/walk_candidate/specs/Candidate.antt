@@ -22,14 +22,15 @@ family k = cond (eqb k 5) 5 (cond (eqb k 16 || eqb k 17) 16 0)
 unfoldable pub evidence : ℕ → ℕ → ℕ
 evidence k u = cond (eqb k 5) 1 (cond (stateChange u) 3 2)
 
--- what a header says of a candidate: its type, its length, its microseconds (0 where there are none), its subtype and, of
--- type 5, its own bounds
+-- what a header says of a candidate: its type, its subtype, its length, of type 5 its own bounds, and its microseconds (0 where
+-- there are none)
 unfoldable pub plausible : ℕ → ℕ → ℕ → ℕ → Bool
 plausible k u n us =
     not (eqb (family k) 0)
+    && not (cond (eqb k 5) (eqb (legacy u n) 6) (eqb (asSize u) 0))
     && leb n 65599
+    && (not (eqb k 5) || eqb (legacy u n) 0)
     && ltb us 1000000
-    && cond (eqb k 5) (eqb (legacy u n) 0) (not (eqb (asSize u) 0))
 
 -- a record that has been judged
 unfoldable pub standing : Judged → Candidate

@@ -1,9 +1,8 @@
 -- The cases of the envelope of types 16 and 17.
 use Prim.Native.Nat.{ℕ, _+_, _-_, _*_, _<_, _≤_}
-use mathlib.Core.Path.{_≡_, refl, sym, _∙_, ap}
+use mathlib.Core.Path.{_≡_, sym, _∙_, ap}
 use mathlib.Core.Bool.{Bool, true, false}
 use mathlib.Core.List.{List}
-use native.Mathlib.Omega.{arith}
 use lib.ListN.{length, drop, List·getD-eq-default}
 use lib.Dec.{eqb}
 use borrow.Author.Tests.{le-leb, lt-leb, eq-eqb, ne-eqb}
@@ -59,7 +58,8 @@ module _ (u : ℕ) (b : List ℕ) {a : ℕ} (e : a ≡ asSize u) where
         bgp4mp-cut l = simp (← e, ne-eqb _ _ n, le-leb _ _ h, ← i, ← j, ne-eqb _ _ y, lt-leb _ _ l)
 
         -- t is what was found of the part after the addresses
-        module _ (l : 2 * a + 4 + 2 * x ≤ length b) {t : Bool} (g : t ≡ tail u (part b (2 * a + 4 + 2 * x) (length b - (2 * a + 4 + 2 * x)))) where
+        module _ (l : 2 * a + 4 + 2 * x ≤ length b) {t : Bool}
+            (g : t ≡ tail u (part b (2 * a + 4 + 2 * x) (length b - (2 * a + 4 + 2 * x)))) where
           rest : t ≡ tail u (drop (2 * a + 4 + 2 * x) b)
           rest = g ∙ ap (tail u) (part-rest b (2 * a + 4 + 2 * x))
 

@@ -1,5 +1,5 @@
 -- The largest bodies that pass the checks of types 5, 16 and 17.
-use Prim.Native.Nat.{ℕ, zero, suc, _+_, _-_, _*_, _≤_}
+use Prim.Native.Nat.{ℕ, zero, suc, _+_, _*_, _≤_}
 use mathlib.Core.Path.{_≡_, refl}
 use mathlib.Core.Bool.{Bool, true, false, _&&_, not, cond, and-eq-true-iff}
 use mathlib.Core.List.{List, [], _∷_, _++_}
@@ -8,9 +8,10 @@ use lib.ListN.{length, getD, drop, length-drop, replicate}
 use lib.Dec.{eqb, leb, ltb}
 use borrow.Author.Tests.{leb-true, eqb-true}
 use Rattle.octets.specs.Octets.{beAt, ones, Octets}
-use Rattle.walk_checks.specs.Within.{from-to, none, within}
+use Rattle.walk_checks.specs.Within.{within}
 use Rattle.walk_checks.specs.Legacy.{legacyBounds, legacy}
 use Rattle.walk_checks.specs.Message.{messageBounds, message}
+use Rattle.walk_checks.specs.declared.Bounds.{Bounds}
 use Rattle.walk_checks.specs.Bgp4mp.{asSizes, asSize, addressSize, stateChange, tail, envelope, bgp4mp}
 
 -- the second of two tests that both hold
@@ -20,17 +21,18 @@ second a b h = and-eq-true-iff a b .0 h .1
 first : (a b : Bool) → (a && b) ≡ true → a ≡ true
 first a b h = and-eq-true-iff a b .0 h .0
 
+-- whichever way a test goes
+either-most : (t : Bool) (x y : Bounds) → x .high ≤ 65535 → y .high ≤ 65535 → cond t x y .high ≤ 65535
+either-most true x y l m = l
+either-most false x y l m = m
+
 -- no type of message may be longer
 high-most : (t : ℕ) → messageBounds t .high ≤ 65535
 unfolding messageBounds
-high-most t = by-tests (eqb t 1) (eqb t 2) (eqb t 3) (eqb t 4)
-  where
-    by-tests : (a b c d : Bool) → cond a (from-to 19 4096) (cond b (from-to 23 65535) (cond c (from-to 21 65535) (cond d (from-to 19 19) none))) .high ≤ 65535
-    by-tests true b c d = omega arith
-    by-tests false true c d = omega arith
-    by-tests false false true d = omega arith
-    by-tests false false false true = omega arith
-    by-tests false false false false = omega arith
+high-most t =
+    either-most (eqb t 1) _ _ (omega arith)
+    (either-most (eqb t 2) _ _ (omega arith)
+    (either-most (eqb t 3) _ _ (omega arith) (either-most (eqb t 4) _ _ (omega arith) (omega arith))))
 
 message-most : (l : List ℕ) → message l ≡ true → length l ≤ 65535
 unfolding message
@@ -42,7 +44,7 @@ message-most l h =
     let w = second (marked && filled) (within (messageBounds t) n) h in
     let i = first (marked && filled) (within (messageBounds t) n) h in
     let e : n ≡ length l = eqb-true n (length l) (second marked filled i) in
-    let m : n ≤ messageBounds t .high = leb-true n (messageBounds t .high) (second (leb (messageBounds t .low) n) (leb n (messageBounds t .high)) w) in
+    let m = leb-true n (messageBounds t .high) (second (leb (messageBounds t .low) n) (leb n (messageBounds t .high)) w) in
     let g = high-most t in
     omega arith
 
@@ -87,7 +89,8 @@ bgp4mp-most u b = by-tests (eqb (asSize u) 0) (leb (2 * asSize u + 4) (length b)
     x : ℕ
     x = addressSize (beAt b (2 * asSize u + 2) 2)
 
-    by-tests : (t e : Bool) → (leb (2 * asSize u + 4) (length b) && envelope (asSize u) x u b) ≡ e → _≡_ {A = ℕ} (cond t 6 (cond e 0 7)) 0 → length b ≤ 65579
+    by-tests : (t e : Bool) → (leb (2 * asSize u + 4) (length b) && envelope (asSize u) x u b) ≡ e
+        → _≡_ {A = ℕ} (cond t 6 (cond e 0 7)) 0 → length b ≤ 65579
     by-tests true e h z = absurd (omega arith)
     by-tests false false h z = absurd (omega arith)
     by-tests false true h z =
@@ -103,15 +106,11 @@ bgp4mp-most u b = by-tests (eqb (asSize u) 0) (leb (2 * asSize u + 4) (length b)
 -- no subtype of type 5 may be longer
 legacy-high : (u : ℕ) → legacyBounds u .high ≤ 65535
 unfolding legacyBounds
-legacy-high u = by-tests (eqb u 1) (eqb u 3) (eqb u 5) (eqb u 6) (eqb u 7)
-  where
-    by-tests : (a b c d e : Bool) → cond a (from-to 16 65535) (cond b (from-to 10 10) (cond c (from-to 22 4089) (cond d (from-to 14 65535) (cond e (from-to 12 12) none)))) .high ≤ 65535
-    by-tests true b c d e = omega arith
-    by-tests false true c d e = omega arith
-    by-tests false false true d e = omega arith
-    by-tests false false false true e = omega arith
-    by-tests false false false false true = omega arith
-    by-tests false false false false false = omega arith
+legacy-high u =
+    either-most (eqb u 1) _ _ (omega arith)
+    (either-most (eqb u 3) _ _ (omega arith)
+    (either-most (eqb u 5) _ _ (omega arith)
+    (either-most (eqb u 6) _ _ (omega arith) (either-most (eqb u 7) _ _ (omega arith) (omega arith)))))
 
 -- THEOREM. The largest body of type 5 that passes has 65,535 octets.
 pub legacy-most : (u n : ℕ) → legacy u n ≡ 0 → n ≤ 65535

@@ -1,7 +1,6 @@
 -- The cases of type 5.
 use Prim.Native.Nat.{ℕ, _<_, _≤_}
-use mathlib.Core.Path.{_≡_, refl, sym}
-use mathlib.Core.Bool.{true, false}
+use mathlib.Core.Path.{_≡_}
 use borrow.Author.Tests.{lt-ltb, le-ltb, le-leb, lt-leb, ne-eqb}
 use Rattle.walk_checks.specs.Within.{none}
 use Rattle.walk_checks.specs.Legacy.{legacyBounds, legacy}

@@ -1,6 +1,6 @@
 -- The marker as four numbers, and the cases of a message.
-use Prim.Native.Nat.{ℕ, _+_, _<_, _≤_}
-use mathlib.Core.Path.{_≡_, refl, sym, _∙_, ap}
+use Prim.Native.Nat.{ℕ, _<_, _≤_}
+use mathlib.Core.Path.{_≡_, sym, _∙_, ap}
 use mathlib.Core.Bool.{Bool, true, false, _&&_, and-false}
 use mathlib.Core.List.{List}
 use lib.ListN.{length, getD}
@@ -8,7 +8,7 @@ use lib.Dec.{eqb, leb}
 use borrow.Author.Tests.{le-leb, lt-leb, eq-eqb, ne-eqb}
 use Rattle.octets.specs.Octets.{beAt, ones, Octets}
 use Rattle.octets.proofs.Ones.{ones-join, ones-be}
-use Rattle.walk_checks.specs.Within.{none, within}
+use Rattle.walk_checks.specs.Within.{none}
 use Rattle.walk_checks.specs.Message.{messageBounds, message}
 use Rattle.walk_checks.specs.declared.Bounds.{Bounds}
 
@@ -18,7 +18,10 @@ message-rest t a b c d = simp (ne-eqb _ _ a, ne-eqb _ _ b, ne-eqb _ _ c, ne-eqb 
 
 -- the marker, four octets at a time
 module _ (s : List ℕ) (o : Octets s) where
-  quarters : ones s 0 16 ≡ (eqb (beAt s 0 4) 4294967295 && (eqb (beAt s 4 4) 4294967295 && (eqb (beAt s 8 4) 4294967295 && eqb (beAt s 12 4) 4294967295)))
+  abbrev quarter : ℕ → Bool
+  quarter at = eqb (beAt s at 4) 4294967295
+
+  quarters : ones s 0 16 ≡ (quarter 0 && (quarter 4 && (quarter 8 && quarter 12)))
   quarters =
       sym (ones-join s 0 4 12)
       ∙ ap (λ (b : Bool). ones s 0 4 && b) (sym (ones-join s 4 4 8))

@@ -1,13 +1,13 @@
 -- The judgement of one record in each of its cases.
-use Prim.Native.Nat.{ℕ, _+_, _-_, _<_, _≤_}
-use mathlib.Core.Path.{_≡_, refl, _∙_}
+use Prim.Native.Nat.{ℕ, _-_, _<_, _≤_}
+use mathlib.Core.Path.{_≡_, _∙_}
 use mathlib.Core.List.{List}
 use native.Mathlib.Omega.{arith}
 use lib.ListN.{length, drop}
 use lib.Seq.{drop-drop}
 use borrow.Author.Tests.{lt-ltb, le-ltb, eq-eqb, ne-eqb}
 use Rattle.octets.specs.Octets.{part}
-use Rattle.rules.specs.Ask.{over, _>>=_}
+use Rattle.rules.specs.Ask.{over}
 use Rattle.rules.proofs.Asked.{over-bind}
 use Rattle.header.specs.Kind.{size}
 use Rattle.header.specs.Frame.{Framing, unframed, frame, frameAt}
@@ -43,7 +43,8 @@ module _ (s : List ℕ) (at : ℕ) where
       judged-framed : ruled f c ≡ over s (judgeAt at)
       unfolding verdict over
       judged-framed =
-          rw (judge-left s at (framed-within s at f e z), judge-over (drop at s) at, ← framed-left s at f e z, eq-eqb (f .head .number) 0 z, ← lent, ← q)
+          let left = judge-left s at (framed-within s at f e z) in
+          rw (left, judge-over (drop at s) at, ← framed-left s at f e z, eq-eqb (f .head .number) 0 z, ← lent, ← q)
 
       pub judged-fit : c ≡ 0 → fit f ≡ over s (judgeAt at)
       judged-fit y = rw (← judged-framed, eq-eqb c 0 y)

@@ -41,7 +41,8 @@ verdict-ok at b m f o = meets-cond (JudgedOk at) (eqb (f .head .number) 0) b m _
         (w .0, w .1, omega arith, omega arith, o .all-there (λ y. omega arith) (λ y. omega arith))
 
     whole : eqb (f .head .number) 0 ≡ true
-        → Meets (JudgedOk at) b m (octets (size (f .head .kind)) (f .head .stored) λ l. done (ruled f (check (f .head .kind) (f .head .subtype) (f .head .stored) l)))
+        → Meets (JudgedOk at) b m (octets (size (f .head .kind)) (f .head .stored) λ l.
+        done (ruled f (check (f .head .kind) (f .head .subtype) (f .head .stored) l)))
     whole e =
         let z = eqb-true (f .head .number) 0 e in
         let k : ℕ = f .head .kind in

@@ -1,8 +1,8 @@
 -- Two answers that say the same are equal: the promises allow one result.
 use Prim.Native.Nat.{ℕ}
-use mathlib.Core.Path.{_≡_, refl, sym, ap}
+use mathlib.Core.Path.{_≡_, sym, ap}
 use native.Mathlib.Omega.{arith}
-use Rattle.answer.specs.Refusal.{numberOf, outcomeNumber}
+use Rattle.answer.specs.Refusal.{numberOf}
 use Rattle.answer.proofs.Refusals.{number-not-zero, number-unique}
 use Rattle.header.specs.Frame.{Framing, unframed}
 use Rattle.header.specs.Back.{headerOf}
@@ -13,9 +13,13 @@ use Rattle.walk_judge.specs.declared.JudgeAnswer.the-variants.{Record, R
 use Rattle.walk_judge.specs.declared.Verdict.{Verdict}
 use Rattle.walk_judge.specs.declared.Verdict.the-variants.{Fit, Off, Cut}
 
+-- the answer that hands out a frame
+abbrev recordOf : ℕ → Framing → JudgeAnswer
+recordOf p f = Record p (headerOf (f .head)) (record { 0 = f .head .wire }) (f .body) (f .end)
+
 pub judging-unique : (a b : JudgeAnswer) → judging a ≡ judging b → a ≡ b
 judging-unique (Record s h w x y) (Record t i v p q) e =
-    ap (λ (j : Judging). Record (j .start) (headerOf (j .frame .head)) (record { 0 = j .frame .head .wire }) (j .frame .body) (j .frame .end)) e
+    ap (λ (j : Judging). recordOf (j .start) (j .frame)) e
 judging-unique (Record s h w x y) (Refused r) e = absurd (number-not-zero r (ap (λ (j : Judging). j .frame .head .number) (sym e)))
 judging-unique (Refused r) (Record s h w x y) e = absurd (number-not-zero r (ap (λ (j : Judging). j .frame .head .number) e))
 judging-unique (Refused r) (Refused q) e = ap Refused (number-unique r q (ap (λ (j : Judging). j .frame .head .number) e))

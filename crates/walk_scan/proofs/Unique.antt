@@ -2,7 +2,6 @@
 use Prim.Native.Nat.{ℕ}
 use mathlib.Core.Path.{_≡_, refl}
 use native.Mathlib.Omega.{arith}
-use Rattle.walk.specs.Step.{found, nowhere}
 use Rattle.walk_scan.specs.Sight.{sighted}
 use Rattle.walk_scan.specs.declared.Found.{Found}
 use Rattle.walk_scan.specs.declared.Found.the-variants.{At, Nowhere}

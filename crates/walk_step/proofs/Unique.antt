@@ -1,11 +1,10 @@
 -- Two answers that say the same are equal: the promises allow one result.
 use Prim.Native.Nat.{ℕ}
-use mathlib.Core.Path.{_≡_, refl, sym, _∙_, ap}
+use mathlib.Core.Path.{_≡_, sym, _∙_, ap}
 use native.Mathlib.Omega.{arith}
 use Rattle.answer.specs.Refusal.{numberOf}
 use Rattle.answer.specs.declared.Refusal.{Refusal}
 use Rattle.answer.proofs.Refusals.{number-not-zero, number-unique}
-use Rattle.header.specs.Read.{accepted}
 use Rattle.header.specs.Frame.{Framing, unframed}
 use Rattle.header.specs.Back.{headerOf}
 use Rattle.walk.specs.Step.{Answer, handed, gap, end, refused}
@@ -29,6 +28,9 @@ frameOf (gap a e r v c) = unframed 0
 frameOf (end a) = unframed 0
 frameOf (refused n a w r) = unframed 0
 
+abbrev recordOf : ℕ → Framing → WalkAnswer
+recordOf p f = Record p (headerOf (f .head)) (record { 0 = f .head .wire }) (f .body) (f .end)
+
 never : {A : Type 0} → _≡_ {A = ℕ} 0 1 → A
 never z = absurd (omega arith)
 
@@ -38,7 +40,7 @@ window-not a w r q e = number-not-zero r (let n : numberOf r ≡ 0 = cc in n)
 
 pub said-unique : (a b : WalkAnswer) → said a ≡ said b → a ≡ b
 said-unique (Record s h w x y) (Record t i v p q) e =
-    ap (λ (z : Answer). Record (startOf z) (headerOf (frameOf z .head)) (record { 0 = frameOf z .head .wire }) (frameOf z .body) (frameOf z .end)) e
+    ap (λ (z : Answer). recordOf (startOf z) (frameOf z)) e
 said-unique (Gap a x r v c) (Gap b y q w d) e =
     let i : a ≡ b = cc in
     let j : x ≡ y = cc in

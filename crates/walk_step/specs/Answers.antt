@@ -1,7 +1,6 @@
 -- What each answer of the walk says, in numbers (01, Refusal numbers; Walk, confirmation, scan).
-use Prim.Native.Nat.{ℕ}
 use Rattle.answer.specs.Refusal.{numberOf}
-use Rattle.header.specs.Read.{accepted}
+use Rattle.header.specs.Read.{headingOf}
 use Rattle.walk.specs.Step.{Answer, handed, gap, end, refused, passed, failed}
 use Rattle.walk.specs.Step as rule
 use Rattle.walk.specs.declared.Walk.{Walk}
@@ -13,8 +12,7 @@ use Rattle.walk_step.specs.declared.Tried.the-variants.{Passed, Failed}
 
 -- a window refusal is 11, with where the scan started, its window and the number of the record there
 abbrev pub said : WalkAnswer → Answer
-said (Record a h w b e) =
-    handed a (record { head = accepted (h .timestamp) (h .kind) (h .subtype) (w .0) (h .length .0) (h .micros); body = b; end = e })
+said (Record a h w b e) = handed a (record { head = headingOf h w; body = b; end = e })
 said (Gap a e r v c) = gap a e (numberOf r) v c
 said (End a) = end a
 said (Window a w r) = refused 11 a w (numberOf r)

@@ -58,7 +58,8 @@ pub fn step(s: &[u8], w: Walk, window: usize, asked: u8) -> Stepped
 
 // The same on a walk that is lent: it is moved by the call.
 pub fn next(s: &[u8], w: &mut Walk, window: usize, asked: u8) -> WalkAnswer
-    ensures answer { λ r. ⌜ record { walk = now (w .exit); answer = said r } ≡ over (now (s .entry)) (stepRule judgeAt candidateAt (now (w .entry)) window asked) ⌝ }
+    ensures answer { λ r. ⌜ record { walk = now (w .exit); answer = said r }
+        ≡ over (now (s .entry)) (stepRule judgeAt candidateAt (now (w .entry)) window asked) ⌝ }
 {
     let before = *w;
     let after = step(s, before, window, asked);

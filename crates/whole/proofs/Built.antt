@@ -7,18 +7,17 @@ use native.Mathlib.Omega.{arith}
 use lib.ListN.{length, take, drop, length-append, take-append-drop}
 use lib.Seq.{length-take-le, take-append-seam}
 use lib.Dec.{ltb}
-use borrow.Author.Tests.{le-ltb, le-leb, eq-eqb, ltb-false}
+use borrow.Author.Tests.{le-ltb, le-leb, ltb-false}
 use Rattle.octets.specs.Octets.{bytesOf, patch}
 use Rattle.octets.proofs.Numbers.{length-bytes}
 use Rattle.rib_head.specs.Layout.{carried, mostBits, pathSize, prefixSize}
 use Rattle.rib_head.specs.Head.{bitsOf, countAt, declared, entriesAt, readable, checkRib}
-use Rattle.rib_entries.specs.Entry.{passed, afterOf}
+use Rattle.rib_entries.specs.Entry.{passed}
 use Rattle.rib_entries.specs.declared.Cursor.{Cursor}
-use Rattle.rib_entries.proofs.Steps.{placed-met}
 use Rattle.rib_write.proofs.Opened.{Whole, standing-whole}
 use Rattle.whole.specs.Run.{Given, givenOctets, entriesOctets}
 use Rattle.rib_begin.specs.Layout.{headWith}
-use Rattle.rib_write.specs.Add.{openOf, unfit, added, Pushing, unpushed, standing, pushAfter, pushEntry}
+use Rattle.rib_write.specs.Add.{unfit, added, Pushing, unpushed, standing, pushAfter, pushEntry}
 use Rattle.rib_write.specs.declared.Builder.{Builder}
 use Rattle.octets.proofs.Stores.{patch-between}
 use Rattle.whole.proofs.Tests.{cond-last}
@@ -96,21 +95,6 @@ module _ (t : ℕ) (h : Front) (w : Sound t h) (gs : List Given) (k : Fitting t 
       let s : List ℕ = body t h gs in
       let e : passed (pathSize t) s (entriesAt s) (declared s) ≡ record { at = length s; left = 0 } = rw declared-built passed-all in
       record { check = check-built; left = ap (λ (c : Cursor). c .left) e; at = ap (λ (c : Cursor). c .at) e }
-
-  -- it can be opened for one entry more
-  pub open-built : openOf (body t h gs) t
-      ≡ record { number = 0; len = length (body t h gs); at = 5 + prefixSize (h .bits); count = length gs }
-  unfolding openOf afterOf
-  open-built =
-      let s : List ℕ = body t h gs in
-      let m = placed-met s t check-built (passed (pathSize t) s (entriesAt s) (declared s)) in
-      rw (
-        ← m,
-        declared-built,
-        passed-all,
-        eq-eqb (length s) (length s) refl,
-        count-at h (length gs) (entriesOctets (pathSize t) gs) (w .full) s (body-split t h gs),
-      )
 
 module _ (t : ℕ) (h : Front) (full : length (h .octets) ≡ prefixSize (h .bits)) where
   -- an entry after the others, and the count raised

@@ -10,22 +10,21 @@ use lib.Dec.{leb, eqb}
 use borrow.Author.Tests.{leb-true, leb-false, le-leb, lt-leb}
 use Rattle.octets.specs.Octets.{patch}
 use Rattle.rules.specs.Ask.{over}
-use Rattle.header.specs.Frame.{Framing}
 use Rattle.walk.specs.Judged.{Judged, fit, off, cut}
 use Rattle.walk.specs.Step.{Stepped, at, handed, moved, freshWalk, step}
 use Rattle.walk.specs.Promises.{Run, heard, Records, Promised}
 use Rattle.walk.specs.declared.Walk.{Walk}
 use Rattle.walk.proofs.Calls.{call, call-fit}
-use Rattle.walk.proofs.Demand3.{call-within}
+use Rattle.walk.proofs.Whole.{call-within}
 use Rattle.walk_judge.specs.Record.{judgeAt}
 use Rattle.walk_candidate.specs.Candidate.{candidateAt}
 use Rattle.walk_candidate.proofs.Candidates.{sound}
 use Rattle.walk_step.proofs.Theorems.{calls-promise}
 use Rattle.mrt_lent.specs.Export.{mark}
-use Rattle.mrt_lent.specs.Rows.{Turn, row, none as no-turn, Rows, rowsOn, rowsFrom, rowsHanded, noneHanded}
+use Rattle.mrt_lent.specs.Rows.{Rows, rowsOn, rowsFrom, rowsHanded, noneHanded}
 use Rattle.mrt_lent.specs.declared.Handed.{Handed}
 use Rattle.mrt_lent.proofs.Walks.{walk-full, walk-served}
-use Rattle.mrt_walk.specs.Next.{walkIn, walkValues, answerOut, steppedOut, nextOut}
+use Rattle.mrt_walk.specs.Next.{walkIn, walkValues, steppedOut, nextOut}
 use Rattle.mrt_records.specs.Records.{recordTurn, recordAt, recordsHanded, recordsOut}
 use Rattle.whole.specs.Made.{Holds, Made, one, many, Calls, answersOf, valuesOf, Shows, none, next, records}
 use Rattle.whole.specs.Made.{full-next, full-records, answered, Nexts}
@@ -146,10 +145,11 @@ module _ (s : List ℕ) (window k : ℕ) where
       by-judged (fit f) q ih =
           let b = sound .fits s p f q in
           let t = ih (f .end) (b .1) in
+          let inside : p < length s = omega (arith, b .0, b .1) in
           let x : Stepped = moved (f .end) (handed p f) in
           record {
             steps = x ∷ t .steps;
-            runs = (sym (call-fit judgeAt candidateAt s window k p f (omega (arith, b .0, b .1)) q), t .runs);
+            runs = (call-fit judgeAt candidateAt s window k (at p) l refl (λ z. omega arith) f (sym q), t .runs);
             all = t .all;
             values = rw (t .values);
             count = rw (t .count);

@@ -22,7 +22,7 @@ module _ (s : List ℕ) (window k : ℕ) where
   unfolding answers upTo stream handedOut
   from-here [] ok (suc m) h pre e =
       let z : length pre ≡ length s = ap length (sym (append-nil pre) ∙ sym e) in
-      rw (call-end judgeAt candidateAt s window k (length pre) z) (ap (λ (n : ℕ). end n ∷ []) z)
+      rw (← call-end judgeAt candidateAt s window k (at (length pre)) (omega arith) refl (sym z)) (ap (λ (n : ℕ). end n ∷ []) z)
   from-here [] ok zero h pre e = absurd (omega arith)
   from-here (r ∷ rs) ok zero h pre e = absurd (omega arith)
   from-here (r ∷ rs) ok (suc m) h pre e =
@@ -33,7 +33,8 @@ module _ (s : List ℕ) (window k : ℕ) where
       let n : length f ≡ placed p r .end = length-append pre (recordOctets r) ∙ ap (λ (i : ℕ). p + i) (length-record r) in
       let inside : p < length s = omega (arith, size-least (r .header .kind)) in
       let i = from-here rs (ok .1) m (omega arith) f q in
-      rw (call-fit judgeAt candidateAt s window k p (placed p r) inside (judged-there pre r (stream rs) s q (ok .0)))
+      let fit-there = sym (judged-there pre r (stream rs) s q (ok .0)) in
+      rw (← call-fit judgeAt candidateAt s window k (at p) (omega arith) refl (λ z. omega arith) (placed p r) fit-there)
       (ap (λ (x : List Answer). handed p (placed p r) ∷ x) (rw n at i))
 
 -- THEOREM. Any stream that is a list of records one after another and nothing else is walked as exactly those records, each where it was

@@ -1,6 +1,6 @@
 -- Runs of the calls that C and Rust make on one lent walk, `mrt_next` and `mrt_records` in any mixture, and the steps of a walk that
 -- they show (01, Walk, confirmation, scan; How tight the promises are).
-use Prim.Native.Nat.{ℕ, suc, _+_, _<_, _≤_}
+use Prim.Native.Nat.{ℕ, suc, _<_, _≤_}
 use mathlib.Core.Path.{_≡_}
 use mathlib.Core.List.{List, [], _∷_, _++_, map}
 use mathlib.Core.Bool.{cond}

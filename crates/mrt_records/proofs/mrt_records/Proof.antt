@@ -27,7 +27,8 @@ returns-2 c =
     let at-if2 = c .before in
     let at-if1 = at-if2 .before .before .before in
     let at-start = at-if1 .before .before .before .before in
-    nothing-handed (at-start .args .s .now) _ _ (c .none-handed2 .ensures) (walk-unmarked _ _ _ _ _ _ (at-if1 .if1 .left) (at-if2 .if2 .taken))
+    nothing-handed (at-start .args .s .now) _ _ (c .none-handed2 .ensures)
+    (walk-unmarked _ _ _ _ _ _ (at-if1 .if1 .left) (at-if2 .if2 .taken))
 
 none-handed-requires-3 : tie.Need-none-handed-requires-3
 none-handed-requires-3 c κs = search needs
@@ -66,7 +67,8 @@ returns-5 c =
     let at-if1 = at-if2 .before .before .before in
     let at-start = at-if1 .before .before .before .before in
     nothing-handed (at-start .args .s .now) _ _ (c .none-handed5 .ensures)
-    (records-finished (at-start .args .s .now) _ _ (at-if1 .if1 .left) (at-if2 .if2 .left) (at-if3 .if3 .left) (at-if4 .if4 .left) (at-if5 .if5 .taken))
+    (records-finished (at-start .args .s .now) _ _ (at-if1 .if1 .left) (at-if2 .if2 .left) (at-if3 .if3 .left) (at-if4 .if4 .left)
+    (at-if5 .if5 .taken))
 
 take-records-requires : tie.Need-take-records-requires
 take-records-requires c κs = search needs

@@ -40,7 +40,8 @@ returns : tie.Need-returns Inv-loop μ-loop
 returns c =
     let at-judge = c .before .before in
     let at-loop = at-judge .before .before in
-    sym (rows-none (recordAt _) 10 _ _ _ _ _ (record-found _ _ (at-judge .judge-at .ensures) (c .enum-told .given .1))) ∙ at-loop .loop .inv .4
+    sym (rows-none (recordAt _) 10 _ _ _ _ _ (record-found _ _ (at-judge .judge-at .ensures) (c .enum-told .given .1)))
+    ∙ at-loop .loop .inv .4
 
 enum-told-2 : tie.Need-enum-told-2 Inv-loop μ-loop
 enum-told-2 c = search needs
@@ -52,7 +53,8 @@ returns-2 : tie.Need-returns-2 Inv-loop μ-loop
 returns-2 c =
     let at-judge = c .before .before in
     let at-loop = at-judge .before .before in
-    sym (rows-none (recordAt _) 10 _ _ _ _ _ (record-found _ _ (at-judge .judge-at .ensures) (c .enum-told2 .given .1))) ∙ at-loop .loop .inv .4
+    sym (rows-none (recordAt _) 10 _ _ _ _ _ (record-found _ _ (at-judge .judge-at .ensures) (c .enum-told2 .given .1)))
+    ∙ at-loop .loop .inv .4
 
 enum-known-header : tie.Need-enum-known-header Inv-loop μ-loop
 enum-known-header c = search needs
@@ -97,7 +99,8 @@ loop-again c =
     let at-loop = at-test .before in
     let inv = at-loop .loop .inv in
     let h : at-loop .loop .at + 10 ≤ length (at-loop .loop .out) = omega (arith, at-test .loop-test .taken, inv .0, inv .3) in
-    let stored = patch-lent (at-loop .loop .out) (at-loop .loop .at) (length (at-loop .loop .out)) 10 _ refl (omega arith) h (at-put .put-values .ensures ∙ ap (patch _ 0) (at-values .record-values .ensures)) in (
+    let stored = patch-lent (at-loop .loop .out) (at-loop .loop .at) (length (at-loop .loop .out)) 10 _ refl (omega arith) h
+    (at-put .put-values .ensures ∙ ap (patch _ 0) (at-values .record-values .ensures)) in (
       omega arith,
       omega arith,
       inv .2,

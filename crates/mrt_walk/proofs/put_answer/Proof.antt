@@ -81,13 +81,21 @@ same-length-4 : tie.Need-same-length-4
 same-length-4 c = search needs
 
 returns-4 : tie.Need-returns-4
-returns-4 c = said-so _ (c .before .before .before .before .before .before .a4 .given .1) (c .before .before .put-refusal .ensures ∙ window-number _ _ _ _ (c .before .before .before .refusal .ensures))
+returns-4 c =
+    let at-put-refusal = c .before .before in
+    let at-refusal = at-put-refusal .before in
+    let at-a4 = at-refusal .before .before .before in
+    said-so _ (at-a4 .a4 .given .1) (at-put-refusal .put-refusal .ensures ∙ window-number _ _ _ _ (at-refusal .refusal .ensures))
 
 same-length-5 : tie.Need-same-length-5
 same-length-5 c = search needs
 
 returns-5 : tie.Need-returns-5
-returns-5 c = said-so _ (c .before .before .before .before .before .before .a5 .given .1) (c .before .before .put-refusal2 .ensures ∙ refusal-number _ (c .before .before .before .refusal2 .ensures))
+returns-5 c =
+    let at-put-refusal2 = c .before .before in
+    let at-refusal2 = at-put-refusal2 .before in
+    let at-a5 = at-refusal2 .before .before .before in
+    said-so _ (at-a5 .a5 .given .1) (at-put-refusal2 .put-refusal2 .ensures ∙ refusal-number _ (at-refusal2 .refusal2 .ensures))
 
 pub put-answer-spec : {M : Type 1} → statement M
 put-answer-spec =

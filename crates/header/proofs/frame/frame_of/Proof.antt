@@ -16,7 +16,10 @@ cast-octets : tie.Need-cast-octets
 cast-octets c = search needs
 
 add-octets : tie.Need-add-octets
-add-octets c = let z = size-most (c .before .before .before .before .before .args .header .kind) in let e = c .before .header-size .ensures in omega arith
+add-octets c =
+    let z = size-most (c .before .before .before .before .before .args .header .kind) in
+    let e = c .before .header-size .ensures in
+    omega arith
 
 returns-2 : tie.Need-returns-2
 returns-2 c = of-cut _ _ _ (c .before .before .before .before .if1 .left) refl (c .before .before .header-size .ensures) (c .if2 .taken)

@@ -19,10 +19,16 @@ frame-of-requires : tie.Need-frame-of-requires
 frame-of-requires c κs = search needs
 
 returns : tie.Need-returns
-returns c = frame-refused _ _ _ (number-not-zero (c .before .r .given .0 .0)) (sym (ap values (c .before .r .given .1)) ∙ c .before .before .before .read-header .ensures)
+returns c =
+    let at-read-header = c .before .before .before in
+    frame-refused _ _ _ (number-not-zero (c .before .r .given .0 .0))
+    (sym (ap values (c .before .r .given .1)) ∙ at-read-header .read-header .ensures)
 
 returns-2 : tie.Need-returns-2
-returns-2 c = c .frame-of .ensures ∙ frame-read _ _ (sym (ap values (c .before .before .header .given .1)) ∙ c .before .before .before .before .read-header .ensures)
+returns-2 c =
+    let at-header = c .before .before in
+    let at-read-header = at-header .before .before in
+    c .frame-of .ensures ∙ frame-read _ _ (sym (ap values (at-header .header .given .1)) ∙ at-read-header .read-header .ensures)
 
 pub frame-record-spec : {M : Type 1} → statement M
 frame-record-spec =

@@ -9,7 +9,9 @@ use Rattle.header.proofs.read.read_front.Statement.{statement}
 use Rattle.header.proofs.read.read_front.Tie as tie
 
 -- what is known once `is_known` has answered, and which way it answered
-fields : (c : tie.After-is-known) → Fields (c .before .before .before .before .before .before .before .args .s .now) (c .before .before .before .before .be32 .result) (c .before .before .before .be16 .result) (c .before .before .be162 .result) (c .before .be322 .result)
+fields : (c : tie.After-is-known)
+    → Fields (c .before .before .before .before .before .before .before .args .s .now) (c .before .before .before .before .be32 .result)
+    (c .before .before .before .be16 .result) (c .before .before .be162 .result) (c .before .be322 .result)
 fields c =
     record {
       twelve = c .before .before .before .before .before .if1 .left;
@@ -53,7 +55,10 @@ read-requires : tie.Need-read-requires
 read-requires c κs = search needs
 
 returns-3 : tie.Need-returns-3
-returns-3 c = ap values (c .read .ensures) ∙ header-plain (fields (c .before .before .before .before)) (the-known (c .before .before .before)) (sym (c .before .before .is-timed .ensures) ∙ not-true _ (c .before .if3 .taken))
+returns-3 c =
+    ap values (c .read .ensures)
+    ∙ header-plain (fields (c .before .before .before .before)) (the-known (c .before .before .before))
+    (sym (c .before .before .is-timed .ensures) ∙ not-true _ (c .before .if3 .taken))
 
 returns-4 : tie.Need-returns-4
 returns-4 c =

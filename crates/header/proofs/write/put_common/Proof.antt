@@ -19,7 +19,13 @@ same-length : tie.Need-same-length
 same-length c = search needs
 
 returns : tie.Need-returns
-returns c = common-stored _ _ _ (c .before .before .before .before .before .before .before .before .before .before .before .before .before .before .put-be32 .ensures) (c .before .before .before .before .before .before .before .before .before .before .put-be16 .ensures) (c .before .before .before .before .before .before .put-be162 .ensures) (c .before .before .put-be322 .ensures)
+returns c =
+    let at-put-be322 = c .before .before in
+    let at-put-be162 = at-put-be322 .before .before .before .before in
+    let at-put-be16 = at-put-be162 .before .before .before .before in
+    let at-put-be32 = at-put-be16 .before .before .before .before in
+    common-stored _ _ _ (at-put-be32 .put-be32 .ensures) (at-put-be16 .put-be16 .ensures) (at-put-be162 .put-be162 .ensures)
+    (at-put-be322 .put-be322 .ensures)
 
 pub put-common-spec : {M : Type 1} → statement M
 put-common-spec =

@@ -9,7 +9,8 @@ use Rattle.walk_candidate.proofs.candidate.candidate_at.Statement.{stat
 use Rattle.walk_candidate.proofs.candidate.candidate_at.Tie as tie
 
 -- the header that was read
-was-read : (c : tie.After-header) → values (HeaderAnswer.Read (c .header .given .0 .0) (c .header .given .0 .1 .0)) ≡ headerAt (c .before .before .before .before .args .s .now) (c .before .before .before .before .args .at)
+was-read : (c : tie.After-header) → values (HeaderAnswer.Read (c .header .given .0 .0) (c .header .given .0 .1 .0))
+    ≡ headerAt (c .before .before .before .before .args .s .now) (c .before .before .before .before .args .at)
 was-read c = sym (ap values (c .header .given .1)) ∙ c .before .before .read-header .ensures
 
 read-header-requires : tie.Need-read-header-requires

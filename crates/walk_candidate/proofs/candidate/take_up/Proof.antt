@@ -13,12 +13,17 @@ use Rattle.walk_candidate.proofs.candidate.take_up.Tie as tie
 
 -- the frame that was found, and where its body stands
 abbrev the-frame : tie.After-h → Framing
-the-frame c = framing (FrameAnswer.Framed (c .h .given .0 .0) (c .h .given .0 .1 .0) (c .h .given .0 .1 .1 .0) (c .h .given .0 .1 .1 .1 .0))
+the-frame c =
+    let g = c .h .given .0 in
+    framing (FrameAnswer.Framed (g .0) (g .1 .0) (g .1 .1 .0) (g .1 .1 .1 .0))
 
-was-framed : (c : tie.After-h) → the-frame c ≡ frameAt (c .before .before .before .before .args .s .now) (c .before .before .before .before .args .at)
-was-framed c = sym (ap framing (c .h .given .1)) ∙ c .before .before .frame-of .ensures ∙ frame-read _ _ (c .before .before .before .before .pre)
+abbrev start : tie.After-h → tie.Start
+start c = c .before .before .before .before
 
-place : (c : tie.After-h) → Placed (c .before .before .before .before .args .s .now) (c .before .before .before .before .args .at) (the-frame c) (was-framed c) refl
+was-framed : (c : tie.After-h) → the-frame c ≡ frameAt (start c .args .s .now) (start c .args .at)
+was-framed c = sym (ap framing (c .h .given .1)) ∙ c .before .before .frame-of .ensures ∙ frame-read _ _ (start c .pre)
+
+place : (c : tie.After-h) → Placed (start c .args .s .now) (start c .args .at) (the-frame c) (was-framed c) refl
 place c = framed-placed _ _ (the-frame c) (was-framed c) refl
 
 frame-of-requires : tie.Need-frame-of-requires
@@ -32,9 +37,11 @@ enum-told c = search needs
 
 returns : tie.Need-returns
 returns c =
+    let at-frame = c .before .before in
+    let read = at-frame .before .before .pre in
     standing-cut
-    (judged-cut _ _ _ (number-not-zero (c .enum-told .given .0 .0)) (read-within _ _ (c .before .before .before .before .pre))
-    (sym (ap framing (c .enum-told .given .1)) ∙ c .before .before .frame-of .ensures ∙ frame-read _ _ (c .before .before .before .before .pre)))
+    (judged-cut _ _ _ (number-not-zero (c .enum-told .given .0 .0)) (read-within _ _ read)
+    (sym (ap framing (c .enum-told .given .1)) ∙ at-frame .frame-of .ensures ∙ frame-read _ _ read))
 
 sub-check-body : tie.Need-sub-check-body
 sub-check-body c = let p = place (c .before) in let x = p .body in let y = p .end in omega arith
@@ -62,15 +69,18 @@ evidence-of-requires c κs = search needs
 
 returns-2 : tie.Need-returns-2
 returns-2 c =
+    let at-check = c .before .before in
     standing-off
-    (judged-off _ _ _ (was-framed (c .before .before .before .before .before)) refl
-    (sym (ap outcomeNumber (c .enum-told2 .given .1)) ∙ c .before .before .check-body .ensures) (number-not-zero (c .enum-told2 .given .0 .0)))
+    (judged-off _ _ _ (was-framed (at-check .before .before .before)) refl
+    (sym (ap outcomeNumber (c .enum-told2 .given .1)) ∙ at-check .check-body .ensures) (number-not-zero (c .enum-told2 .given .0 .0)))
 
 returns-3 : tie.Need-returns-3
 returns-3 c =
+    let at-told = c .before .before in
+    let at-check = at-told .before .before in
     standing-fit
-    (judged-fit _ _ _ (was-framed (c .before .before .before .before .before .before .before)) refl
-    (sym (ap outcomeNumber (c .before .before .enum-told3 .given .1)) ∙ c .before .before .before .before .check-body .ensures) refl)
+    (judged-fit _ _ _ (was-framed (at-check .before .before .before)) refl
+    (sym (ap outcomeNumber (at-told .enum-told3 .given .1)) ∙ at-check .check-body .ensures) refl)
     (c .before .family-of .ensures) (c .evidence-of .ensures)
 
 pub take-up-spec : {M : Type 1} → statement M

@@ -13,19 +13,31 @@ be32-requires-2 : tie.Need-be32-requires-2
 be32-requires-2 c κs = search needs
 
 returns-2 : tie.Need-returns-2
-returns-2 c = marker-second _ (λ i. c .before .before .before .before .shared-slice-known .given i .fits) (c .before .be322 .ensures) (c .if2 .taken)
+returns-2 c =
+    let at-octets = c .before .before .before .before in
+    marker-second _ (λ i. at-octets .shared-slice-known .given i .fits) (c .before .be322 .ensures) (c .if2 .taken)
 
 be32-requires-3 : tie.Need-be32-requires-3
 be32-requires-3 c κs = search needs
 
 returns-3 : tie.Need-returns-3
-returns-3 c = marker-third _ (λ i. c .before .before .before .before .before .before .shared-slice-known .given i .fits) (c .before .be323 .ensures) (c .if3 .taken)
+returns-3 c =
+    let at-octets = c .before .before .before .before .before .before in
+    marker-third _ (λ i. at-octets .shared-slice-known .given i .fits) (c .before .be323 .ensures) (c .if3 .taken)
 
 be32-requires-4 : tie.Need-be32-requires-4
 be32-requires-4 c κs = search needs
 
 returns-4 : tie.Need-returns-4
-returns-4 c = marker-last _ (λ i. c .before .before .before .before .before .before .before .shared-slice-known .given i .fits) (c .before .before .before .before .before .before .be32 .ensures) (c .before .before .before .before .be322 .ensures) (c .before .before .be323 .ensures) (c .be324 .ensures) (c .before .before .before .before .before .if1 .left) (c .before .before .before .if2 .left) (c .before .if3 .left)
+returns-4 c =
+    let at-be323 = c .before .before in
+    let at-if2 = at-be323 .before in
+    let at-be322 = at-if2 .before in
+    let at-if1 = at-be322 .before in
+    let at-be32 = at-if1 .before in
+    let at-octets = at-be32 .before in
+    marker-last _ (λ i. at-octets .shared-slice-known .given i .fits) (at-be32 .be32 .ensures) (at-be322 .be322 .ensures)
+    (at-be323 .be323 .ensures) (c .be324 .ensures) (at-if1 .if1 .left) (at-if2 .if2 .left) (c .before .if3 .left)
 
 pub is-marker-spec : {M : Type 1} → statement M
 is-marker-spec =

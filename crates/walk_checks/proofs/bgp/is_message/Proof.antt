@@ -21,7 +21,12 @@ cast-if3 : tie.Need-cast-if3
 cast-if3 c = search needs
 
 returns-3 : tie.Need-returns-3
-returns-3 c = message-unfilled _ (c .before .before .before .before .if1 .left) (sym (c .before .before .before .is-marker .ensures) ∙ not-false _ (c .before .before .if2 .left)) (c .before .be16 .ensures) (c .if3 .taken)
+returns-3 c =
+    let at-if2 = c .before .before in
+    let at-is-marker = at-if2 .before in
+    let at-if1 = at-is-marker .before in
+    message-unfilled _ (at-if1 .if1 .left) (sym (at-is-marker .is-marker .ensures) ∙ not-false _ (at-if2 .if2 .left))
+    (c .before .be16 .ensures) (c .if3 .taken)
 
 octet-requires : tie.Need-octet-requires
 octet-requires c κs = search needs
@@ -33,13 +38,31 @@ cast-if4 : tie.Need-cast-if4
 cast-if4 c = search needs
 
 returns-4 : tie.Need-returns-4
-returns-4 c = message-low _ (c .before .before .before .before .before .before .before .before .if1 .left) (sym (c .before .before .before .before .before .before .before .is-marker .ensures) ∙ not-false _ (c .before .before .before .before .before .before .if2 .left)) (c .before .before .before .before .before .be16 .ensures) (c .before .before .before .before .if3 .left) (c .before .before .before .octet .ensures) (c .before .before .message-bounds .ensures) (c .if4 .taken)
+returns-4 c =
+    let at-message-bounds = c .before .before in
+    let at-octet = at-message-bounds .before in
+    let at-if3 = at-octet .before in
+    let at-be16 = at-if3 .before in
+    let at-if2 = at-be16 .before in
+    let at-is-marker = at-if2 .before in
+    let at-if1 = at-is-marker .before in
+    message-low _ (at-if1 .if1 .left) (sym (at-is-marker .is-marker .ensures) ∙ not-false _ (at-if2 .if2 .left)) (at-be16 .be16 .ensures)
+    (at-if3 .if3 .left) (at-octet .octet .ensures) (at-message-bounds .message-bounds .ensures) (c .if4 .taken)
 
 cast-result : tie.Need-cast-result
 cast-result c = search needs
 
 returns-5 : tie.Need-returns-5
-returns-5 c = message-high _ (c .before .before .before .before .before .before .before .before .before .if1 .left) (sym (c .before .before .before .before .before .before .before .before .is-marker .ensures) ∙ not-false _ (c .before .before .before .before .before .before .before .if2 .left)) (c .before .before .before .before .before .before .be16 .ensures) (c .before .before .before .before .before .if3 .left) (c .before .before .before .before .octet .ensures) (c .before .before .before .message-bounds .ensures) (c .before .if4 .left)
+returns-5 c =
+    let at-message-bounds = c .before .before .before in
+    let at-octet = at-message-bounds .before in
+    let at-if3 = at-octet .before in
+    let at-be16 = at-if3 .before in
+    let at-if2 = at-be16 .before in
+    let at-is-marker = at-if2 .before in
+    let at-if1 = at-is-marker .before in
+    message-high _ (at-if1 .if1 .left) (sym (at-is-marker .is-marker .ensures) ∙ not-false _ (at-if2 .if2 .left)) (at-be16 .be16 .ensures)
+    (at-if3 .if3 .left) (at-octet .octet .ensures) (at-message-bounds .message-bounds .ensures) (c .before .if4 .left)
 
 pub is-message-spec : {M : Type 1} → statement M
 is-message-spec =

@@ -37,7 +37,13 @@ cast-x : tie.Need-cast-x
 cast-x c = search needs
 
 returns-3 : tie.Need-returns-3
-returns-3 c = bgp4mp-family _ _ (c .before .before .before .before .before .as-size .ensures) (c .before .before .before .before .if1 .left) (c .before .before .before .if2 .left) (c .before .before .be16 .ensures) (c .before .address-size .ensures) (c .if3 .taken)
+returns-3 c =
+    let at-be16 = c .before .before in
+    let at-if2 = at-be16 .before in
+    let at-if1 = at-if2 .before in
+    let at-as-size = at-if1 .before in
+    bgp4mp-family _ _ (at-as-size .as-size .ensures) (at-if1 .if1 .left) (at-if2 .if2 .left) (at-be16 .be16 .ensures)
+    (c .before .address-size .ensures) (c .if3 .taken)
 
 mul-at : tie.Need-mul-at
 mul-at c = search needs
@@ -52,7 +58,14 @@ add-at-2 : tie.Need-add-at-2
 add-at-2 c = search needs
 
 returns-4 : tie.Need-returns-4
-returns-4 c = bgp4mp-cut _ _ (c .before .before .before .before .before .before .as-size .ensures) (c .before .before .before .before .before .if1 .left) (c .before .before .before .before .if2 .left) (c .before .before .before .be16 .ensures) (c .before .before .address-size .ensures) (c .before .if3 .left) (c .if4 .taken)
+returns-4 c =
+    let at-address-size = c .before .before in
+    let at-be16 = at-address-size .before in
+    let at-if2 = at-be16 .before in
+    let at-if1 = at-if2 .before in
+    let at-as-size = at-if1 .before in
+    bgp4mp-cut _ _ (at-as-size .as-size .ensures) (at-if1 .if1 .left) (at-if2 .if2 .left) (at-be16 .be16 .ensures)
+    (at-address-size .address-size .ensures) (c .before .if3 .left) (c .if4 .taken)
 
 sub-ends-well : tie.Need-sub-ends-well
 sub-ends-well c = search needs
@@ -67,10 +80,28 @@ ends-well-requires : tie.Need-ends-well-requires
 ends-well-requires c κs = search needs
 
 returns-5 : tie.Need-returns-5
-returns-5 c = bgp4mp-met _ _ (c .before .before .before .before .before .before .before .before .before .as-size .ensures) (c .before .before .before .before .before .before .before .before .if1 .left) (c .before .before .before .before .before .before .before .if2 .left) (c .before .before .before .before .before .before .be16 .ensures) (c .before .before .before .before .before .address-size .ensures) (c .before .before .before .before .if3 .left) (c .before .before .before .if4 .left) (c .before .ends-well .ensures) (c .if5 .taken)
+returns-5 c =
+    let at-if4 = c .before .before .before in
+    let at-if3 = at-if4 .before in
+    let at-address-size = at-if3 .before in
+    let at-be16 = at-address-size .before in
+    let at-if2 = at-be16 .before in
+    let at-if1 = at-if2 .before in
+    let at-as-size = at-if1 .before in
+    bgp4mp-met _ _ (at-as-size .as-size .ensures) (at-if1 .if1 .left) (at-if2 .if2 .left) (at-be16 .be16 .ensures)
+    (at-address-size .address-size .ensures) (at-if3 .if3 .left) (at-if4 .if4 .left) (c .before .ends-well .ensures) (c .if5 .taken)
 
 returns-6 : tie.Need-returns-6
-returns-6 c = bgp4mp-unmet _ _ (c .before .before .before .before .before .before .before .before .before .as-size .ensures) (c .before .before .before .before .before .before .before .before .if1 .left) (c .before .before .before .before .before .before .before .if2 .left) (c .before .before .before .before .before .before .be16 .ensures) (c .before .before .before .before .before .address-size .ensures) (c .before .before .before .before .if3 .left) (c .before .before .before .if4 .left) (c .before .ends-well .ensures) (c .if5 .left)
+returns-6 c =
+    let at-if4 = c .before .before .before in
+    let at-if3 = at-if4 .before in
+    let at-address-size = at-if3 .before in
+    let at-be16 = at-address-size .before in
+    let at-if2 = at-be16 .before in
+    let at-if1 = at-if2 .before in
+    let at-as-size = at-if1 .before in
+    bgp4mp-unmet _ _ (at-as-size .as-size .ensures) (at-if1 .if1 .left) (at-if2 .if2 .left) (at-be16 .be16 .ensures)
+    (at-address-size .address-size .ensures) (at-if3 .if3 .left) (at-if4 .if4 .left) (c .before .ends-well .ensures) (c .if5 .left)
 
 pub check-bgp4mp-spec : {M : Type 1} → statement M
 check-bgp4mp-spec =

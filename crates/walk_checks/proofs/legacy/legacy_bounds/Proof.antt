@@ -25,7 +25,9 @@ unfolding legacyBounds
 returns-5 c = ap legacyBounds (sym (c .match .keys5))
 
 returns-6 : tie.Need-returns-6
-returns-6 c = legacy-rest _ (c .match .rest .0 .0 .0 .0 .1) (c .match .rest .0 .0 .0 .1) (c .match .rest .0 .0 .1) (c .match .rest .0 .1) (c .match .rest .1)
+returns-6 c =
+    legacy-rest _ (c .match .rest .0 .0 .0 .0 .1) (c .match .rest .0 .0 .0 .1) (c .match .rest .0 .0 .1) (c .match .rest .0 .1)
+    (c .match .rest .1)
 
 pub legacy-bounds-spec : {M : Type 1} → statement M
 legacy-bounds-spec = tie.close (tie.spec returns returns-2 returns-3 returns-4 returns-5 returns-6)

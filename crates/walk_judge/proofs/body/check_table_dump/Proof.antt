@@ -21,10 +21,18 @@ enum-told : tie.Need-enum-told
 enum-told c = search needs
 
 returns-2 : tie.Need-returns-2
-returns-2 c = ap (λ (h : Heading). h .number) (sym (ap heading (c .before .t .given .1)) ∙ c .before .before .before .check-peers .ensures) ∙ dump-peers _ _ (c .before .before .before .before .if1 .left)
+returns-2 c =
+    let at-check-peers = c .before .before .before in
+    let at-if1 = at-check-peers .before in
+    ap (λ (h : Heading). h .number) (sym (ap heading (c .before .t .given .1)) ∙ at-check-peers .check-peers .ensures)
+    ∙ dump-peers _ _ (at-if1 .if1 .left)
 
 returns-3 : tie.Need-returns-3
-returns-3 c = ap (λ (h : Heading). h .number) (sym (ap heading (c .enum-told .given .1)) ∙ c .before .before .check-peers .ensures) ∙ dump-peers _ _ (c .before .before .before .if1 .left)
+returns-3 c =
+    let at-check-peers = c .before .before in
+    let at-if1 = at-check-peers .before in
+    ap (λ (h : Heading). h .number) (sym (ap heading (c .enum-told .given .1)) ∙ at-check-peers .check-peers .ensures)
+    ∙ dump-peers _ _ (at-if1 .if1 .left)
 
 pub check-table-dump-spec : {M : Type 1} → statement M
 check-table-dump-spec =

@@ -13,12 +13,17 @@ use Rattle.walk_judge.proofs.record.judge_at.Tie as tie
 
 -- the frame that was found, and where its body stands
 abbrev the-frame : tie.After-header → Framing
-the-frame c = framing (FrameAnswer.Framed (c .header .given .0 .0) (c .header .given .0 .1 .0) (c .header .given .0 .1 .1 .0) (c .header .given .0 .1 .1 .1 .0))
+the-frame c =
+    let g = c .header .given .0 in
+    framing (FrameAnswer.Framed (g .0) (g .1 .0) (g .1 .1 .0) (g .1 .1 .1 .0))
 
-was-framed : (c : tie.After-header) → the-frame c ≡ frameAt (c .before .before .before .before .before .args .s .now) (c .before .before .before .before .before .args .at)
+abbrev start : tie.After-header → tie.Start
+start c = c .before .before .before .before .before
+
+was-framed : (c : tie.After-header) → the-frame c ≡ frameAt (start c .args .s .now) (start c .args .at)
 was-framed c = sym (ap framing (c .header .given .1)) ∙ c .before .before .frame-record .ensures
 
-place : (c : tie.After-header) → Placed (c .before .before .before .before .before .args .s .now) (c .before .before .before .before .before .args .at) (the-frame c) (was-framed c) refl
+place : (c : tie.After-header) → Placed (start c .args .s .now) (start c .args .at) (the-frame c) (was-framed c) refl
 place c = framed-placed _ _ (the-frame c) (was-framed c) refl
 
 returns : tie.Need-returns
@@ -52,7 +57,10 @@ enum-told : tie.Need-enum-told
 enum-told c = search needs
 
 returns-2 : tie.Need-returns-2
-returns-2 c = judged-cut _ _ _ (number-not-zero (c .before .r .given .0 .0)) (c .before .before .before .before .if1 .left) (sym (ap framing (c .before .r .given .1)) ∙ c .before .before .before .frame-record .ensures)
+returns-2 c =
+    let at-frame = c .before .before .before in
+    judged-cut _ _ _ (number-not-zero (c .before .r .given .0 .0)) (at-frame .before .if1 .left)
+    (sym (ap framing (c .before .r .given .1)) ∙ at-frame .frame-record .ensures)
 
 returns-3 : tie.Need-returns-3
 returns-3 c =

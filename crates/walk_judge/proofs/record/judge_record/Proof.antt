@@ -21,13 +21,22 @@ enum-known-header : tie.Need-enum-known-header
 enum-known-header c = search needs
 
 returns-2 : tie.Need-returns-2
-returns-2 c = judgement-within _ _ (c .before .before .before .before .if1 .left) (sym (ap judged (c .before .r .given .1)) ∙ c .before .before .before .judge-at .ensures)
+returns-2 c =
+    let at-judge-at = c .before .before .before in
+    let at-if1 = at-judge-at .before in
+    judgement-within _ _ (at-if1 .if1 .left) (sym (ap judged (c .before .r .given .1)) ∙ at-judge-at .judge-at .ensures)
 
 returns-3 : tie.Need-returns-3
-returns-3 c = judgement-within _ _ (c .before .before .before .before .if1 .left) (sym (ap judged (c .before .refusal .given .1)) ∙ c .before .before .before .judge-at .ensures)
+returns-3 c =
+    let at-judge-at = c .before .before .before in
+    let at-if1 = at-judge-at .before in
+    judgement-within _ _ (at-if1 .if1 .left) (sym (ap judged (c .before .refusal .given .1)) ∙ at-judge-at .judge-at .ensures)
 
 returns-4 : tie.Need-returns-4
-returns-4 c = judgement-within _ _ (c .before .before .before .before .if1 .left) (sym (ap judged (c .before .header .given .1)) ∙ c .before .before .before .judge-at .ensures)
+returns-4 c =
+    let at-judge-at = c .before .before .before in
+    let at-if1 = at-judge-at .before in
+    judgement-within _ _ (at-if1 .if1 .left) (sym (ap judged (c .before .header .given .1)) ∙ at-judge-at .judge-at .ensures)
 
 pub judge-record-spec : {M : Type 1} → statement M
 judge-record-spec =

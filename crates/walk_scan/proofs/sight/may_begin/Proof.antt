@@ -43,10 +43,15 @@ returns-4 : tie.Need-returns-4
 returns-4 c = λ e. absurd (let y : _≡_ {A = ℕ} 1 0 = cc in omega arith)
 
 returns-5 : tie.Need-returns-5
-returns-5 c = λ e. candidate-low _ _ (omega arith) (c .before .before .before .before .before .before .before .if1 .left) (c .before .if4 .left) (λ x y. omega arith)
+returns-5 c =
+    let at-if1 = c .before .before .before .before .before .before .before in
+    λ e. candidate-low _ _ (omega arith) (at-if1 .if1 .left) (c .before .if4 .left) (λ x y. omega arith)
 
 returns-6 : tie.Need-returns-6
-returns-6 c = λ e. candidate-low _ _ (omega arith) (c .before .before .before .before .before .before .before .before .if1 .left) (c .before .before .if4 .left) (λ x y. omega arith)
+returns-6 c =
+    let at-if4 = c .before .before in
+    let at-if1 = at-if4 .before .before .before .before .before .before in
+    λ e. candidate-low _ _ (omega arith) (at-if1 .if1 .left) (at-if4 .if4 .left) (λ x y. omega arith)
 
 returns-7 : tie.Need-returns-7
 returns-7 c = λ e. absurd (let y : _≡_ {A = ℕ} 1 0 = cc in omega arith)

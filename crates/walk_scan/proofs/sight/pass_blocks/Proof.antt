@@ -1,9 +1,7 @@
 use Prim.Native.Nat.{_≤_, _-_}
-use mathlib.Core.Path.{_≡_}
 use native.Mathlib.Omega.{arith}
 use Rattle.walk_scan.specs.Sight.{Passed}
 use Rattle.walk_scan.proofs.Scans.{passed-none, passed-block}
-use borrow.Author.Needs.{needs}
 use Rattle.walk_scan.proofs.sight.pass_blocks.Statement.{statement}
 use Rattle.walk_scan.proofs.sight.pass_blocks.Tie as tie
 
@@ -38,7 +36,9 @@ loop-less : tie.Need-loop-less Inv-loop μ-loop
 loop-less c = omega arith
 
 loop-again : tie.Need-loop-again Inv-loop μ-loop
-loop-again c = (omega arith, omega arith, passed-block _ _ _ _ _ (c .before .before .before .loop .inv .2) (c .before .marked .ensures (omega arith)))
+loop-again c =
+    let at-loop = c .before .before .before in
+    (omega arith, omega arith, passed-block _ _ _ _ _ (at-loop .loop .inv .2) (c .before .marked .ensures (omega arith)))
 
 returns-2 : tie.Need-returns-2 Inv-loop μ-loop
 returns-2 c = c .before .loop .inv

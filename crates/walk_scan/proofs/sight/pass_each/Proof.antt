@@ -1,9 +1,7 @@
 use Prim.Native.Nat.{_-_, _≤_}
-use mathlib.Core.Path.{_≡_}
 use native.Mathlib.Omega.{arith}
 use Rattle.walk_scan.specs.Sight.{Passed}
 use Rattle.walk_scan.proofs.Scans.{passed-none, passed-one}
-use borrow.Author.Needs.{needs}
 use Rattle.walk_scan.proofs.sight.pass_each.Statement.{statement}
 use Rattle.walk_scan.proofs.sight.pass_each.Tie as tie
 
@@ -35,7 +33,9 @@ loop-less : tie.Need-loop-less Inv-loop μ-loop
 loop-less c = omega arith
 
 loop-again : tie.Need-loop-again Inv-loop μ-loop
-loop-again c = (omega arith, omega arith, passed-one _ _ _ _ (c .before .before .before .loop .inv .2) (c .before .may-begin .ensures (c .if1 .left)))
+loop-again c =
+    let at-loop = c .before .before .before in
+    (omega arith, omega arith, passed-one _ _ _ _ (at-loop .loop .inv .2) (c .before .may-begin .ensures (c .if1 .left)))
 
 returns-2 : tie.Need-returns-2 Inv-loop μ-loop
 returns-2 c = c .before .loop .inv

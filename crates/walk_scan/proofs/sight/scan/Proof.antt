@@ -1,9 +1,10 @@
-use Prim.Native.Nat.{_≤_, _-_, min}
+use Prim.Native.Nat.{_+_, _≤_, _-_, min}
 use mathlib.Core.Path.{_≡_, refl, sym, _∙_, ap}
 use native.Mathlib.Omega.{arith}
 use lib.ListN.{length}
 use borrow.Author.Needs.{needs}
-use Rattle.walk.proofs.Turns.{Left, Stood, scan-starts, scan-looks, scan-turned, scan-left, row-starts, row-ends, row-other, row-turned, row-whole, row-longer}
+use Rattle.walk.proofs.Turns.{Left, Looks, scan-starts, scan-looks, scan-turned, scan-left}
+use Rattle.walk.proofs.Turns.{Stood, row-starts, row-ends, row-other, row-turned, row-whole, row-longer}
 use Rattle.walk_candidate.specs.Candidate.{candidateAt, candidacy}
 use Rattle.walk_scan.proofs.Scans.{scan-reached, left-over}
 use Rattle.walk_scan.proofs.sight.scan.Statement.{statement}
@@ -57,18 +58,33 @@ enum-told : tie.Need-enum-told Inv-loop μ-loop Inv-distance μ-distance
 enum-told c = search needs
 
 distance-less : tie.Need-distance-less Inv-loop μ-loop Inv-distance μ-distance
-distance-less c = omega (arith, c .before .before .before .before .before .pass-over .ensures .0, c .before .before .before .before .if1 .left)
+distance-less c =
+    let at-if1 = c .before .before .before .before in
+    omega (arith, at-if1 .before .pass-over .ensures .0, at-if1 .if1 .left)
+
+-- where the scan began
+abbrev start : tie.Else1 Inv-loop μ-loop Inv-distance μ-distance → tie.Start Inv-loop μ-loop Inv-distance μ-distance
+start c = c .before .before .before .before .before
+
+-- the distance after those that are passed over
+looks : (c : tie.Else1 Inv-loop μ-loop Inv-distance μ-distance)
+    → Looks candidateAt (start c .args .s .now) (start c .args .more) (start c .args .p) (start c .args .window)
+    (c .before .pass-over .result + 1) (start c .args .p + (c .before .pass-over .result + 1))
+looks c =
+    let at-pass = c .before in
+    let inv = at-pass .before .distance .inv in
+    let passed = left-over _ _ _ _ _ _ (at-pass .pass-over .ensures .0) (omega (arith, c .if1 .left, inv .1)) (inv .2)
+    (at-pass .pass-over .ensures .2) in
+    scan-looks candidateAt _ _ _ _ _ (omega (arith, c .if1 .left, inv .1)) passed
 
 distance-again : tie.Need-distance-again Inv-loop μ-loop Inv-distance μ-distance
 distance-again c =
-    let at-pass = c .before .before .before .before .before in
-    let at-distance = at-pass .before in
-    let there = left-over _ _ _ _ _ _ (at-pass .pass-over .ensures .0) (omega (arith, c .before .before .before .before .if1 .left, at-distance .distance .inv .1)) (at-distance .distance .inv .2) (at-pass .pass-over .ensures .2) in (
-      omega (arith, c .before .before .before .before .if1 .left),
-      at-distance .distance .inv .1,
-      scan-turned candidateAt _ _ _ _ _ _ refl
-          (scan-looks candidateAt _ _ _ _ _ (omega (arith, c .before .before .before .before .if1 .left, at-distance .distance .inv .1)) there)
-          (sym (row-ends candidateAt _ _ _ _ _ _ _ (c .before .before .before .loop .inv .0) (c .before .before .before .loop .inv .1)
+    let at-loop = c .before .before .before in
+    let at-if1 = at-loop .before in (
+      omega (arith, at-if1 .if1 .left),
+      at-if1 .before .before .distance .inv .1,
+      scan-turned candidateAt _ _ _ _ _ _ refl (looks at-if1)
+          (sym (row-ends candidateAt _ _ _ _ _ _ _ (at-loop .loop .inv .0) (at-loop .loop .inv .1)
           (sym (c .before .before .candidate-at .ensures) ∙ ap candidacy (c .enum-told .given .1)))),
     )
 
@@ -79,19 +95,23 @@ first-requires-2 : tie.Need-first-requires-2 Inv-loop μ-loop Inv-distance μ-di
 first-requires-2 c κs = search needs
 
 distance-less-2 : tie.Need-distance-less-2 Inv-loop μ-loop Inv-distance μ-distance
-distance-less-2 c = omega (arith, c .before .before .before .before .before .before .before .before .before .pass-over .ensures .0, c .before .before .before .before .before .before .before .before .if1 .left)
+distance-less-2 c =
+    let at-if1 = c .before .before .before .before .before .before .before .before in
+    omega (arith, at-if1 .before .pass-over .ensures .0, at-if1 .if1 .left)
 
 distance-again-2 : tie.Need-distance-again-2 Inv-loop μ-loop Inv-distance μ-distance
 distance-again-2 c =
-    let at-pass = c .before .before .before .before .before .before .before .before .before in
-    let at-distance = at-pass .before in
-    let there = left-over _ _ _ _ _ _ (at-pass .pass-over .ensures .0) (omega (arith, c .before .before .before .before .before .before .before .before .if1 .left, at-distance .distance .inv .1)) (at-distance .distance .inv .2) (at-pass .pass-over .ensures .2) in (
-      omega (arith, c .before .before .before .before .before .before .before .before .if1 .left),
-      at-distance .distance .inv .1,
-      scan-turned candidateAt _ _ _ _ _ _ refl
-          (scan-looks candidateAt _ _ _ _ _ (omega (arith, c .before .before .before .before .before .before .before .before .if1 .left, at-distance .distance .inv .1)) there)
-          (sym (row-other candidateAt _ _ _ _ _ _ _ (c .before .before .before .before .before .before .before .loop .inv .0) (c .before .before .before .before .before .before .before .loop .inv .1) (sym (c .before .before .before .before .before .before .candidate-at .ensures) ∙ ap candidacy (c .before .before .before .before .other .given .1))
-          (c .before .before .first .ensures) (c .if2 .taken))),
+    let at-first = c .before .before in
+    let at-other = at-first .before .before in
+    let at-candidate = at-other .before .before in
+    let at-loop = at-candidate .before in
+    let at-if1 = at-loop .before in (
+      omega (arith, at-if1 .if1 .left),
+      at-if1 .before .before .distance .inv .1,
+      scan-turned candidateAt _ _ _ _ _ _ refl (looks at-if1)
+          (sym (row-other candidateAt _ _ _ _ _ _ _ (at-loop .loop .inv .0) (at-loop .loop .inv .1)
+          (sym (at-candidate .candidate-at .ensures) ∙ ap candidacy (at-other .other .given .1))
+          (at-first .first .ensures) (c .if2 .taken))),
     )
 
 add-i : tie.Need-add-i Inv-loop μ-loop Inv-distance μ-distance
@@ -101,22 +121,29 @@ loop-less : tie.Need-loop-less Inv-loop μ-loop Inv-distance μ-distance
 loop-less c = omega arith
 
 loop-again : tie.Need-loop-again Inv-loop μ-loop Inv-distance μ-distance
-loop-again c = (
-  omega arith,
-  row-longer candidateAt _ _ _ _ _ _ _
-      (row-turned candidateAt _ _ _ _ _ _ _ (c .before .before .before .before .before .before .before .before .loop .inv .0) (c .before .before .before .before .before .before .before .before .loop .inv .1) (sym (c .before .before .before .before .before .before .before .candidate-at .ensures) ∙ ap candidacy (c .before .before .before .before .before .other .given .1))
-      (c .before .before .before .first .ensures) (c .before .before .first2 .ensures) (c .before .if2 .left)),
-)
+loop-again c =
+    let at-first = c .before .before .before in
+    let at-other = at-first .before .before in
+    let at-candidate = at-other .before .before in
+    let at-loop = at-candidate .before in (
+      omega arith,
+      row-longer candidateAt _ _ _ _ _ _ _
+          (row-turned candidateAt _ _ _ _ _ _ _ (at-loop .loop .inv .0) (at-loop .loop .inv .1)
+          (sym (at-candidate .candidate-at .ensures) ∙ ap candidacy (at-other .other .given .1))
+          (at-first .first .ensures) (c .before .before .first2 .ensures) (c .before .if2 .left)),
+    )
 
 returns-2 : tie.Need-returns-2 Inv-loop μ-loop Inv-distance μ-distance
 returns-2 c =
-    let at-pass = c .before .before .before .before .before .before .before .before .before .before in
-    let at-distance = at-pass .before in
-    let there = left-over _ _ _ _ _ _ (at-pass .pass-over .ensures .0) (omega (arith, c .before .before .before .before .before .before .before .before .before .if1 .left, at-distance .distance .inv .1)) (at-distance .distance .inv .2) (at-pass .pass-over .ensures .2) in
-    scan-left candidateAt _ _ _ _ _ _ (scan-looks candidateAt _ _ _ _ _ (omega (arith, c .before .before .before .before .before .before .before .before .before .if1 .left, at-distance .distance .inv .1)) there)
+    let at-first = c .before .before .before in
+    let at-other = at-first .before .before in
+    let at-candidate = at-other .before .before in
+    let at-loop = at-candidate .before in
+    scan-left candidateAt _ _ _ _ _ _ (looks (at-loop .before))
     (sym (row-whole candidateAt _ _ _ _ _ _ _ (c .if3 .taken)
-    (row-turned candidateAt _ _ _ _ _ _ _ (c .before .before .before .before .before .before .before .before .loop .inv .0) (c .before .before .before .before .before .before .before .before .loop .inv .1) (sym (c .before .before .before .before .before .before .before .candidate-at .ensures) ∙ ap candidacy (c .before .before .before .before .before .other .given .1))
-    (c .before .before .before .first .ensures) (c .before .before .first2 .ensures) (c .before .if2 .left))))
+    (row-turned candidateAt _ _ _ _ _ _ _ (at-loop .loop .inv .0) (at-loop .loop .inv .1)
+    (sym (at-candidate .candidate-at .ensures) ∙ ap candidacy (at-other .other .given .1))
+    (at-first .first .ensures) (c .before .before .first2 .ensures) (c .before .if2 .left))))
 
 pub scan-spec : {M : Type 1} → statement M
 scan-spec =

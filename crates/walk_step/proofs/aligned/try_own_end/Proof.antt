@@ -26,13 +26,25 @@ enum-told : tie.Need-enum-told Inv-loop μ-loop
 enum-told c = search needs
 
 returns-2 : tie.Need-returns-2 Inv-loop μ-loop
-returns-2 c = goes-cut _ _ _ _ _ (c .before .before .before .before .before .loop .inv .1) (c .before .before .before .before .loop-test .taken) (c .before .before .before .if1 .left) (sym (ap judged (c .enum-told .given .1)) ∙ c .before .before .judge-at .ensures)
+returns-2 c =
+    let at-judge-at = c .before .before in
+    let at-if1 = at-judge-at .before in
+    let at-loop-test = at-if1 .before in
+    let at-loop = at-loop-test .before in
+    goes-cut _ _ _ _ _ (at-loop .loop .inv .1) (at-loop-test .loop-test .taken) (at-if1 .if1 .left)
+    (sym (ap judged (c .enum-told .given .1)) ∙ at-judge-at .judge-at .ensures)
 
 enum-told-2 : tie.Need-enum-told-2 Inv-loop μ-loop
 enum-told-2 c = search needs
 
 returns-3 : tie.Need-returns-3 Inv-loop μ-loop
-returns-3 c = goes-off _ _ _ _ _ (c .before .before .before .before .before .loop .inv .1) (c .before .before .before .before .loop-test .taken) (c .before .before .before .if1 .left) (sym (ap judged (c .enum-told2 .given .1)) ∙ c .before .before .judge-at .ensures)
+returns-3 c =
+    let at-judge-at = c .before .before in
+    let at-if1 = at-judge-at .before in
+    let at-loop-test = at-if1 .before in
+    let at-loop = at-loop-test .before in
+    goes-off _ _ _ _ _ (at-loop .loop .inv .1) (at-loop-test .loop-test .taken) (at-if1 .if1 .left)
+    (sym (ap judged (c .enum-told2 .given .1)) ∙ at-judge-at .judge-at .ensures)
 
 enum-known-v : tie.Need-enum-known-v Inv-loop μ-loop
 enum-known-v c = search needs
@@ -44,7 +56,13 @@ loop-less : tie.Need-loop-less Inv-loop μ-loop
 loop-less c = omega arith
 
 loop-again : tie.Need-loop-again Inv-loop μ-loop
-loop-again c = (omega arith, goes-on _ _ _ _ _ (c .before .before .before .before .before .before .loop .inv .1) (c .before .before .before .before .before .loop-test .taken) (c .before .before .before .before .if1 .left) _ (sym (ap judged (c .before .v .given .1)) ∙ c .before .before .before .judge-at .ensures))
+loop-again c =
+    let at-judge-at = c .before .before .before in
+    let at-if1 = at-judge-at .before in
+    let at-loop-test = at-if1 .before in
+    let at-loop = at-loop-test .before in
+    let fitted = sym (ap judged (c .before .v .given .1)) ∙ at-judge-at .judge-at .ensures in
+    (omega arith, goes-on _ _ _ _ _ (at-loop .loop .inv .1) (at-loop-test .loop-test .taken) (at-if1 .if1 .left) _ fitted)
 
 returns-4 : tie.Need-returns-4 Inv-loop μ-loop
 returns-4 c = goes-enough _ _ _ _ _ (c .before .loop .inv .1) (c .before .loop .inv .0) (c .loop-test .left)

@@ -3,7 +3,7 @@ use Rattle.walk_judge.specs.Record.{judgeAt}
 use mathlib.Core.Path.{sym, _∙_, ap}
 use Rattle.walk_step.specs.Answers.{tried}
 use Rattle.walk_step.proofs.Reading.{asked-own}
-use Rattle.walk.proofs.Turns.{own-passed, own-failed}
+use Rattle.walk.proofs.Calls.{own-passed, own-failed}
 use borrow.Author.Needs.{needs}
 use Rattle.walk_step.proofs.call.resume.Statement.{statement}
 use Rattle.walk_step.proofs.call.resume.Tie as tie
@@ -27,10 +27,21 @@ go-on-requires : tie.Need-go-on-requires
 go-on-requires c κs = search needs
 
 returns : tie.Need-returns
-returns c = c .search .ensures ∙ own-failed judgeAt candidateAt _ _ _ _ _ _ (asked-own _ (c .before .before .before .before .at-least-one .ensures) _ _ (sym (ap tried (c .before .enum-told .given .1)) ∙ c .before .before .before .try-own-end .ensures))
+returns c =
+    let at-try-own-end = c .before .before .before in
+    let at-asked = at-try-own-end .before in
+    c .search .ensures ∙ own-failed judgeAt candidateAt _ _ _ _ _ _
+    (asked-own _ (at-asked .at-least-one .ensures) _ _
+    (sym (ap tried (c .before .enum-told .given .1)) ∙ at-try-own-end .try-own-end .ensures))
 
 returns-2 : tie.Need-returns-2
-returns-2 c = c .go-on .ensures ∙ own-passed judgeAt candidateAt _ _ _ _ _ _ (asked-own _ (c .before .before .before .before .before .at-least-one .ensures) _ _ (sym (ap tried (c .before .before .confirmed .given .1)) ∙ c .before .before .before .before .try-own-end .ensures))
+returns-2 c =
+    let at-confirmed = c .before .before in
+    let at-try-own-end = at-confirmed .before .before in
+    let at-asked = at-try-own-end .before in
+    c .go-on .ensures ∙ own-passed judgeAt candidateAt _ _ _ _ _ _
+    (asked-own _ (at-asked .at-least-one .ensures) _ _
+    (sym (ap tried (at-confirmed .confirmed .given .1)) ∙ at-try-own-end .try-own-end .ensures))
 
 pub resume-spec : {M : Type 1} → statement M
 resume-spec =

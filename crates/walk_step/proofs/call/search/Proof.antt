@@ -1,5 +1,5 @@
 use Rattle.walk_step.proofs.Reading.{asked-more, asked-found}
-use Rattle.walk.proofs.Turns.{scanned-nowhere}
+use Rattle.walk.proofs.Calls.{scanned-nowhere}
 use Rattle.walk_candidate.specs.Candidate.{candidateAt}
 use Rattle.walk_judge.specs.Record.{judgeAt}
 use mathlib.Core.Path.{sym, _∙_, ap}
@@ -30,10 +30,19 @@ go-on-requires : tie.Need-go-on-requires
 go-on-requires c κs = search needs
 
 returns : tie.Need-returns
-returns c = c .unfound .ensures ∙ scanned-nowhere judgeAt candidateAt _ _ _ _ _ (asked-more _ (c .before .before .before .before .at-least-one .ensures) _ _ _ (sym (ap sighted (c .before .enum-told .given .1)) ∙ c .before .before .before .scan .ensures))
+returns c =
+    let at-scan = c .before .before .before in
+    let at-asked = at-scan .before in
+    c .unfound .ensures ∙ scanned-nowhere judgeAt candidateAt _ _ _ _ _
+    (asked-more _ (at-asked .at-least-one .ensures) _ _ _ (sym (ap sighted (c .before .enum-told .given .1)) ∙ at-scan .scan .ensures))
 
 returns-2 : tie.Need-returns-2
-returns-2 c = c .go-on .ensures ∙ asked-found _ (c .before .before .before .before .before .at-least-one .ensures) _ _ _ _ (sym (ap sighted (c .before .before .offset .given .1)) ∙ c .before .before .before .before .scan .ensures)
+returns-2 c =
+    let at-offset = c .before .before in
+    let at-scan = at-offset .before .before in
+    let at-asked = at-scan .before in
+    c .go-on .ensures ∙ asked-found _ (at-asked .at-least-one .ensures) _ _ _ _
+    (sym (ap sighted (at-offset .offset .given .1)) ∙ at-scan .scan .ensures)
 
 pub search-spec : {M : Type 1} → statement M
 search-spec =

@@ -1,25 +1,22 @@
--- Demand 3, for every judgement that is sound.
+-- What a whole walk promises, for every judgement that is sound.
 use Prim.Native.Nat.{ℕ, zero, suc, _+_, _-_, _*_, _/_, _<_, _≤_}
 use mathlib.Core.Path.{_≡_, refl, sym, _∙_, ap}
-use mathlib.Core.Bool.{Bool, true, false, cond}
+use mathlib.Core.Bool.{Bool, true, false}
 use mathlib.Core.List.{List, [], _∷_}
 use native.Mathlib.Omega.{arith}
 use lib.ListN.{length}
-use lib.Dec.{leb}
-use borrow.Author.Tests.{leb-true, leb-false}
-use Rattle.rules.specs.Ask.{Ask, done, _>>=_, over}
-use Rattle.rules.proofs.Asked.{over-bind}
+use Rattle.rules.specs.Ask.{Ask, over}
 use Rattle.header.specs.Frame.{Framing}
-use Rattle.walk.specs.Judged.{Judged, fit, off, cut, Candidate}
+use Rattle.walk.specs.Judged.{Judged, fit, off, Candidate}
 use Rattle.walk.specs.Step.{Answer, handed, gap, end, refused, Stepped, at, freshWalk, finishedAt, stopped, asked, nowhere, scan}
 use Rattle.walk.specs.Promises.{upTo, answers, Run, heard, Covers, Passed, Records, Follows, Confirmed, NoGap, Apart}
 use Rattle.walk.specs.Promises.{RunTo, Confirms, Off, Scans, unconfirmed}
 use Rattle.walk.specs.Promises.{unframed as unframed-at, RowOf, Evident, NoRow, own as own-end, least, none as none-left}
-use Rattle.walk.specs.Promises.{Shut, Sought, Promised}
+use Rattle.walk.specs.Promises.{Sought, Promised}
 use Rattle.walk.specs.Promises.{Last, over as over-last, shut}
 use Rattle.walk.specs.declared.Walk.{Walk}
 use Rattle.walk.proofs.Sound.{Sound}
-use Rattle.walk.proofs.Rows.{row-at, at-row, no-row, Least, scan-found, scan-nowhere}
+use Rattle.walk.proofs.Rows.{row-at, at-row, no-row, scan-found, scan-nowhere}
 use Rattle.walk.proofs.Tries.{tried-confirms, tried-nothing}
 use Rattle.walk.proofs.Calls.{call, Why, unframed, untried, Call, ends, fits, own, takes, none, full, called}
 use Rattle.walk.proofs.Calls.{call-end, call-fit, call-finished}
@@ -40,11 +37,11 @@ module _ (judge : ℕ → Ask Judged) (candidate : ℕ → Ask Candidate) (sound
 
     first-fit : (m p : ℕ) (f : Framing) → p < length s → over s (judge p) ≡ fit f → from (suc m) p ≡ handed p f ∷ from m (f .end)
     unfolding answers upTo
-    first-fit m p f l q = simp (call-fit judge candidate s window k p f l q)
+    first-fit m p f l q = rw (← call-fit judge candidate s window k (at p) (omega arith) refl (λ z. omega arith) f (sym q))
 
     first-end : (m p : ℕ) → p ≡ length s → from (suc m) p ≡ end p ∷ []
     unfolding answers upTo
-    first-end m p e = simp (call-end judge candidate s window k p e)
+    first-end m p e = rw (← call-end judge candidate s window k (at p) (omega arith) refl (sym e))
 
     -- what the answers from p on promise
     record Good (p : ℕ) (l : List Answer) : Type 0 where
@@ -195,8 +192,7 @@ module _ (judge : ℕ → Ask Judged) (candidate : ℕ → Ask Candidate) (sound
       where
         by-mark : (f : Bool) → w .finished ≡ f → call judge candidate s window k w .walk .position ≤ length s
         by-mark true f =
-            let e : w ≡ finishedAt (w .position) = ap {B = Walk} (λ (b : Bool). record { position = w .position; finished = b }) f in
-            rw (e, call-finished judge candidate s window k (w .position) l) l
+            rw (← call-finished judge candidate s window k w l f) l
         by-mark false f =
             let e : w ≡ at (w .position) = ap {B = Walk} (λ (b : Bool). record { position = w .position; finished = b }) f in
             rw e (by-within (w .position) _ l (called judge candidate s window k (w .position) l))
@@ -219,10 +215,10 @@ apart n (refused x a w r ∷ l) h = apart n l h
 
 module _ (judge : ℕ → Ask Judged) (candidate : ℕ → Ask Candidate) where
   -- THEOREM. The first 2 * (n / 12) + 2 calls of a fresh walk over any n octets have among them the last answer, and the answers
-  -- of so many calls, or of more, promise all that demand 3 asks.
-  pub demand-3 : Sound judge candidate → (s : List ℕ) (window k m : ℕ) → 2 * (length s / 12) + 2 ≤ m
+  -- of so many calls, or of more, promise all that `Promised` asks.
+  pub answers-promise : Sound judge candidate → (s : List ℕ) (window k m : ℕ) → 2 * (length s / 12) + 2 ≤ m
       → Promised judge candidate s window k (answers (call judge candidate s window k) m freshWalk)
-  demand-3 sound s window k m b =
+  answers-promise sound s window k m b =
       let g = enough judge candidate sound s window k m .any 0 (omega arith) (omega arith) in
       let l : List Answer = answers (call judge candidate s window k) m freshWalk in
       record {
@@ -243,16 +239,17 @@ module _ (judge : ℕ → Ask Judged) (candidate : ℕ → Ask Candidate) where
   pub run-promises : Sound judge candidate → (s : List ℕ) (window k : ℕ) (l : List Stepped) → 2 * (length s / 12) + 2 ≤ length l
       → Run (call judge candidate s window k) freshWalk l → Promised judge candidate s window k (heard l)
   run-promises sound s window k l b r =
-      rw (heard-answers (call judge candidate s window k) l freshWalk r) (demand-3 sound s window k (length l) b)
+      rw (heard-answers (call judge candidate s window k) l freshWalk r) (answers-promise sound s window k (length l) b)
 
   module _ (s : List ℕ) (window k : ℕ) where
     by-last : (p a : ℕ) (x : Stepped) → Call judge candidate s window k p x → p ≤ length s → Last a (x .answer)
         → (x .walk ≡ finishedAt a) × (call judge candidate s window k (finishedAt a) ≡ stopped a (end a))
-    by-last p a x (ends q) l over-last = (refl, call-finished judge candidate s window k p l)
-    by-last p a x (full r u i q t) l shut = (refl, call-finished judge candidate s window k p l)
+    by-last p a x (ends q) l over-last = (refl, sym (call-finished judge candidate s window k (finishedAt p) l refl))
+    by-last p a x (full r u i q t) l shut = (refl, sym (call-finished judge candidate s window k (finishedAt p) l refl))
 
     -- THEOREM. Where a call gives the last answer, the walk is finished in its place, and every call after it answers the end
     -- with the same position and leaves the walk as it is.
     pub last-stays : (p a : ℕ) → p ≤ length s → Last a (call judge candidate s window k (at p) .answer)
-        → (call judge candidate s window k (at p) .walk ≡ finishedAt a) × (call judge candidate s window k (finishedAt a) ≡ stopped a (end a))
+        → (call judge candidate s window k (at p) .walk ≡ finishedAt a)
+        × (call judge candidate s window k (finishedAt a) ≡ stopped a (end a))
     last-stays p a l h = by-last p a _ (called judge candidate s window k p l) l h
