@@ -9,7 +9,7 @@ use Rattle.rib_write.specs.declared.BuilderAnswer.{BuilderAnswer}
 use Rattle.rib_write.specs.declared.BuilderAnswer.the-variants.{Open, Refused}
 use Rattle.rib_write.specs.declared.NewEntry.{NewEntry}
 use Rattle.mrt_lent.specs.Export.{exported}
-use Rattle.mrt_rib_build.specs.Build.{holdsBuilder, builderIn, pushedValues, pushedOut, pushOut}
+use Rattle.mrt_rib_build.specs.Build.{holdsBuilder, builderIn, pushedValues, pushOut}
 
 module _ (s : List ℕ) (t : ℕ) (ws : List ℕ) (e : NewEntry) (attributes : List ℕ) where
   -- too few places for a builder

@@ -32,7 +32,9 @@ pub extern "C" fn mrt_push_entry(
     path: u32,
     attributes: &[u8],
 ) -> u32
-    ensures answer { λ r. ⌜ (now (out .exit), (now (builder .exit), r)) ≡ pushOut (now (out .entry)) subtype (now (builder .entry)) (record { peer = peer; originated = originated; path = path }) (now (attributes .entry)) ⌝ }
+    ensures answer { λ r. ⌜ (now (out .exit), (now (builder .exit), r))
+        ≡ pushOut (now (out .entry)) subtype (now (builder .entry))
+        (record { peer = peer; originated = originated; path = path }) (now (attributes .entry)) ⌝ }
 {
     if builder.len() < 3 {
         return 8;

@@ -1,6 +1,6 @@
 -- What a push of rows across the boundary is in each of its cases.
 use Prim.Native.Nat.{ℕ, _<_, _≤_}
-use mathlib.Core.Path.{_≡_, refl, sym, _∙_, ap}
+use mathlib.Core.Path.{_≡_, _∙_, ap}
 use mathlib.Core.List.{List, [], _∷_}
 use lib.ListN.{length, getD}
 use borrow.Author.Tests.{le-leb, lt-leb, ne-eqb}
@@ -8,7 +8,7 @@ use Rattle.answer.specs.Refusal.{numberOf}
 use Rattle.answer.specs.declared.Refusal.{Refusal}
 use Rattle.answer.proofs.Refusals.{number-not-zero}
 use Rattle.octets.specs.Octets.{patch}
-use Rattle.rib_write.specs.Rows.{Rowed, rowsValues, pushEntries}
+use Rattle.rib_write.specs.Rows.{rowsValues, pushEntries}
 use Rattle.rib_write.specs.declared.Builder.{Builder}
 use Rattle.rib_write.specs.declared.RowsAnswer.{RowsAnswer}
 use Rattle.rib_write.specs.declared.RowsAnswer.the-variants.{Pushed, Refused}
@@ -29,7 +29,8 @@ module _ (s : List ℕ) (t : ℕ) (ws rs buffer : List ℕ) where
     unfolding rowsOut holdsBuilder
     rows-uncounted e m = simp (e, le-leb _ _ l, lt-leb _ _ m)
 
-    module _ (m : getD ws 2 0 ≤ 65535) (a : RowsAnswer) (u : List ℕ) (said : rowsValues a u ≡ pushEntries s t (builderIn ws) rs buffer) where
+    module _ (m : getD ws 2 0 ≤ 65535) (a : RowsAnswer) (u : List ℕ)
+        (said : rowsValues a u ≡ pushEntries s t (builderIn ws) rs buffer) where
       -- what the answer leaves
       left : rowsLeft ws (rowsValues a u) ≡ rowsOut s t ws rs buffer
       unfolding rowsOut holdsBuilder

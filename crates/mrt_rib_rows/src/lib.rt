@@ -15,7 +15,8 @@ pub extern "C" fn mrt_push_entries(
     rows: &[u64],
     attributes: &[u8],
 ) -> Handed
-    ensures answer { λ r. ⌜ (now (out .exit), (now (builder .exit), r)) ≡ rowsOut (now (out .entry)) subtype (now (builder .entry)) (now (rows .entry)) (now (attributes .entry)) ⌝ }
+    ensures answer { λ r. ⌜ (now (out .exit), (now (builder .exit), r))
+        ≡ rowsOut (now (out .entry)) subtype (now (builder .entry)) (now (rows .entry)) (now (attributes .entry)) ⌝ }
 {
     if builder.len() < 3 {
         return mrt_lent::none_handed(8);

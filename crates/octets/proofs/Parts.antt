@@ -103,20 +103,14 @@ copy-over s l at i e n {t} {u} b c d f p q =
     copy-part s l at e n (omega arith) refl (q ∙ ap (λ (v : List ℕ). patch v (at + e) (part l e n)) before
     ∙ patch-over r (at + e) (part l e (i - e)) (part l e n) (omega arith) (omega arith))
 
--- the first n octets of m, and then the last n
-pub copy-ends : (s l : List ℕ) (at m n : ℕ) {t u : List ℕ} → n ≤ m → m ≤ n + n → m ≤ length l → at + m ≤ length s
-    → t ≡ patch s at (part l 0 n)
-    → u ≡ patch t (at + (m - n)) (part l (m - n) n) → u ≡ patch s at (take m l)
-copy-ends s l at m n a b c d p q =
-    let y : m - n + n ≡ m = omega arith in
-    rw y at (copy-over s l at n (m - n) n (omega arith) (omega arith) (omega arith) (omega arith) p q)
-
--- twice n octets, the second n after the first
-pub copy-twice : (s l : List ℕ) (to at n : ℕ) {t u : List ℕ} → at + (n + n) ≤ length l
-    → t ≡ patch s to (part l at n)
-    → u ≡ patch t (to + n) (part l (at + n) n) → u ≡ patch s to (part l at (n + n))
-copy-twice s l to at n h p q =
-    stores s to n (part l at n) (part l (at + n) n) (length-part l at n (omega arith)) p q ∙ ap (patch s to) (part-join l at n n)
+-- the same of a part of l that starts at an offset
+pub block-over : (s l : List ℕ) (to at i e n : ℕ) {t u : List ℕ} → e ≤ i → i ≤ e + n → at + (e + n) ≤ length l
+    → to + (e + n) ≤ length s → t ≡ patch s to (part l at i) → u ≡ patch t (to + e) (part l (at + e) n)
+    → u ≡ patch s to (part l at (e + n))
+block-over s l to at i e n {t} a b c d p q =
+    let k = length-drop at l in
+    copy-over s (drop at l) to i e n a b (omega arith) d p
+    (q ∙ ap (λ (x : List ℕ). patch t (to + e) (take n x)) (sym (drop-drop e at l)))
 
 -- stores in the part that was lent from e on, seen in the whole
 pub patch-rest : (s : List ℕ) (e at : ℕ) (bs : List ℕ) {t : List ℕ} → e ≤ length s → t ≡ patch (part s e (length s - e)) at bs

@@ -1,3 +1,2 @@
--- Rooms: whether octets lie within others. Blocks: blocks that are copied one after another.
+-- Rooms: whether octets lie within others.
 mod Rooms
-mod Blocks

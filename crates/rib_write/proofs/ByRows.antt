@@ -6,8 +6,8 @@ use mathlib.Core.List.{List, _++_}
 use native.Mathlib.Nat.{add-zero, zero-add, sub-zero}
 use native.Mathlib.Omega.{arith}
 use lib.ListN.{length, take, drop, getD, take-append-drop}
-use lib.Dec.{leb, ltb, eqb}
-use borrow.Author.Tests.{le-leb, leb-true, lt-ltb, le-ltb, ltb-true, ltb-false, eq-eqb, ne-eqb, eqb-true, eqb-false}
+use lib.Dec.{ltb, eqb}
+use borrow.Author.Tests.{le-leb, leb-true, lt-ltb, le-ltb, ltb-true, ltb-false, eq-eqb, ne-eqb, eqb-true}
 use Rattle.answer.specs.Refusal.{numberOf, outcomeNumber}
 use Rattle.answer.specs.declared.Refusal.{Refusal}
 use Rattle.answer.specs.declared.Outcome.{Outcome}
@@ -28,7 +28,7 @@ use Rattle.rib_write.specs.declared.RowsAnswer.{RowsAnswer}
 use Rattle.rib_write.specs.declared.RowsAnswer.the-variants.{Pushed}
 use Rattle.rib_write.proofs.Sizes.{length-entry}
 use Rattle.rib_write.proofs.Answers.{fit-count}
-use Rattle.rib_write.proofs.Standing.{both, Stands, stands-on, length-next}
+use Rattle.rib_write.proofs.Standing.{both, Stands, stands-on}
 
 -- what holds of a row of which a push can be asked for, with a buffer of n octets
 pub record Asked (rs : List ℕ) (at n : ℕ) : Type 0 where
@@ -372,7 +372,8 @@ module _ (t : ℕ) (b : Builder) (rs buffer before : List ℕ) where
         pub row-size : n ≡ 8 + pathSize t + sizeIn rs place
         row-size = put-size _ _ _ _ _ e z ∙ rw q
 
-        pub row-stored : take len out ++ (u ++ drop (length out - len) (drop len out)) ≡ patch out len (rowOctets (g .stands) rs place buffer)
+        pub row-stored : take len out ++ (u ++ drop (length out - len) (drop len out))
+            ≡ patch out len (rowOctets (g .stands) rs place buffer)
         row-stored =
             let v = rw q at (put-octets _ _ _ _ _ e z) in
             patch-rest out len 0 (rowOctets (g .stands) rs place buffer) (g .stands .within) v

@@ -8,7 +8,7 @@ use lib.ListN.{length, take, drop, getD}
 use lib.Seq.{length-take-le, take-append-le, take-take, getD-take}
 use lib.Dec.{eqb}
 use borrow.Author.Tests.{le-leb, eq-eqb, eqb-true, eqb-false}
-use Rattle.octets.specs.Octets.{beAt, bytesOf, patch}
+use Rattle.octets.specs.Octets.{bytesOf, patch}
 use Rattle.octets.proofs.Numbers.{length-bytes, be-take, be-of-bytes}
 use Rattle.octets.proofs.Stores.{length-patch, patch-within}
 use Rattle.rib_head.specs.Layout.{mostBits, prefixSize}
@@ -63,7 +63,7 @@ module _ {s : List ℕ} {t : ℕ} {b : Builder} (w : Stands s t b) where
       let l : length body ≡ b .len = length-take-le (b .len) s (w .within) in
       omega (arith, met-within body t (headed .check), headed .at)
 
-  pub count-fits : b .at + 2 ≤ length s
+  count-fits : b .at + 2 ≤ length s
   count-fits = let h = w .within in omega (arith, count-within)
 
   -- after an entry of octets bs, and a count of v
@@ -77,7 +77,7 @@ module _ {s : List ℕ} {t : ℕ} {b : Builder} (w : Stands s t b) where
     length-first : length first ≡ length s
     length-first = length-patch s (b .len) bs
 
-    pub length-next : length next ≡ length s
+    length-next : length next ≡ length s
     unfolding added
     length-next = length-patch (patch s (b .len) bs) (b .at) (bytesOf 2 v) ∙ length-patch s (b .len) bs
 

@@ -4,6 +4,9 @@ use mathlib.Core.Path.{_≡_, sym, ap}
 use mathlib.Core.List.{List}
 use Rattle.answer.proofs.Refusals.{number-not-zero, number-unique}
 use Rattle.rib_write.specs.Add.{Opening, openValues, Pushing, pushed}
+use Rattle.rib_write.specs.Rows.{Rowed, rowsValues}
+use Rattle.rib_write.specs.declared.RowsAnswer.{RowsAnswer}
+use Rattle.rib_write.specs.declared.RowsAnswer.the-variants as rows
 use Rattle.rib_write.specs.declared.BuilderAnswer.{BuilderAnswer}
 use Rattle.rib_write.specs.declared.BuilderAnswer.the-variants.{Open, Refused}
 
@@ -21,3 +24,11 @@ pushed-unique (Open c) (Refused r) t u q = absurd (number-not-zero r (ap (λ (x 
 pushed-unique (Refused r) (Open d) t u q = absurd (number-not-zero r (ap (λ (x : Pushing). x .number) q))
 pushed-unique (Refused r) (Refused s) t u q =
     (ap Refused (number-unique r s (ap (λ (x : Pushing). x .number) q)), ap (λ (x : Pushing). x .output) q)
+
+pub rows-unique : (a b : RowsAnswer) (t u : List ℕ) → rowsValues a t ≡ rowsValues b u → (a ≡ b) × (t ≡ u)
+rows-unique (rows.Pushed c m) (rows.Pushed d n) t u q =
+    (ap (λ (x : Rowed). rows.Pushed (record { len = x .len; at = x .at; count = x .count }) (x .rows)) q, ap (λ (x : Rowed). x .output) q)
+rows-unique (rows.Pushed c m) (rows.Refused r) t u q = absurd (number-not-zero r (ap (λ (x : Rowed). x .number) (sym q)))
+rows-unique (rows.Refused r) (rows.Pushed d n) t u q = absurd (number-not-zero r (ap (λ (x : Rowed). x .number) q))
+rows-unique (rows.Refused r) (rows.Refused s) t u q =
+    (ap rows.Refused (number-unique r s (ap (λ (x : Rowed). x .number) q)), ap (λ (x : Rowed). x .output) q)

@@ -156,7 +156,8 @@ fn is_unfit(count: u16, subtype: u16, path: u32, m: usize) -> bool
 // which lets the compiler make one store of each number.
 pub(crate) fn put_entry(part: &mut [u8], path: usize, rows: &[u64], at: usize, attributes: &[u8])
     requires { ⌜ (at + 3 ≤ length (now rows)) × (cond (eqb path 0) 0 4 ≡ path) ⌝ }
-    ensures { λ _. ⌜ now (part .exit) ≡ patch (now (part .entry)) 0 (entryOctets path (entryIn (now (rows .entry)) at) (now (attributes .entry))) ⌝ }
+    ensures { λ _. ⌜ now (part .exit)
+        ≡ patch (now (part .entry)) 0 (entryOctets path (entryIn (now (rows .entry)) at) (now (attributes .entry))) ⌝ }
 {
     octets_copies::store16(part, 0, (rows[at] % 65536) as u16);
     octets_copies::store32(part, 2, (rows[at + 1] % 4294967296) as u32);

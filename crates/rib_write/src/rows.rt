@@ -23,7 +23,8 @@ pub fn push_entries(
     rows: &[u64],
     attributes: &[u8],
 ) -> RowsAnswer
-    ensures answer { λ r. ⌜ rowsValues r (now (out .exit)) ≡ pushEntries (now (out .entry)) subtype b (now (rows .entry)) (now (attributes .entry)) ⌝ }
+    ensures answer { λ r. ⌜ rowsValues r (now (out .exit))
+        ≡ pushEntries (now (out .entry)) subtype b (now (rows .entry)) (now (attributes .entry)) ⌝ }
 {
     if rows.len() % 5 != 0 {
         return RowsAnswer::Refused(Refusal::Beyond);
@@ -46,7 +47,8 @@ fn push_rows(
     attributes: &[u8],
 ) -> RowsAnswer
     requires { ⌜ (b .len ≤ length (now out)) × (standing (take (b .len) (now out)) subtype b ≡ 0) × (length (now rows) % 5 ≡ 0) ⌝ }
-    ensures { λ r. ⌜ rowsValues r (now (out .exit)) ≡ rowed (pushRows (length (now (rows .entry)) / 5) (now (out .entry)) subtype b (now (rows .entry)) 0 (now (attributes .entry))) ⌝ }
+    ensures { λ r. ⌜ rowsValues r (now (out .exit))
+        ≡ rowed (pushRows (length (now (rows .entry)) / 5) (now (out .entry)) subtype b (now (rows .entry)) 0 (now (attributes .entry))) ⌝ }
 {
     let l = rib_head::layout_of(subtype);
     let most = most_path(l.path);

@@ -138,7 +138,7 @@ module _ (t : ℕ) (h : Front) (full : length (h .octets) ≡ prefixSize (h .bit
 
 -- what pushing an entry answers
 module _ (t : ℕ) (h : Front) (w : Sound t h) (gs : List Given) (k : Fitting t gs) where
-  standing-built : standing (body t h gs) t (builder t h gs) ≡ 0
+  pub standing-built : standing (body t h gs) t (builder t h gs) ≡ 0
   standing-built =
       let s : List ℕ = body t h gs in
       let c : countAt s ≡ 5 + prefixSize (h .bits) =

@@ -15,4 +15,5 @@ pub mod RibBodies
 pub mod Records
 pub mod Written
 pub mod Streams
+pub mod Copied
 pub mod Mixed

@@ -6,7 +6,7 @@ use mathlib.Core.Bool.{cond}
 use lib.ListN.{take, drop}
 use lib.Dec.{eqb}
 use Rattle.answer.specs.Writing.{Writing}
-use Rattle.octets.specs.Octets.{part}
+use Rattle.octets.specs.Octets.{bytesOf, part}
 use Rattle.rib_head.specs.Layout.{prefixSize}
 use Rattle.rib_head.specs.Prefix.{cleared}
 use Rattle.rib_head.specs.Head.{bitsOf, countAt}
@@ -62,3 +62,7 @@ readBack s t i (suc n) = givenOf s t i ∷ readBack s t (suc i) n
 -- the body s with the bits after its prefix cleared
 unfoldable pub tidied : List ℕ → List ℕ
 tidied s = take 5 s ++ cleared (bitsOf s) (drop 5 s) (prefixSize (bitsOf s)) ++ drop (countAt s) s
+
+-- the head of the body s, with no entry
+unfoldable pub headAlone : List ℕ → List ℕ
+headAlone s = take (countAt s) s ++ bytesOf 2 0

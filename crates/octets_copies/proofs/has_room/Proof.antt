@@ -1,4 +1,5 @@
-use Rattle.octets_copies.proofs.Rooms.{room-none, room-rest}
+use Rattle.octets.proofs.Parts.{room-rest}
+use Rattle.octets_copies.proofs.Rooms.{room-none}
 use Rattle.octets_copies.proofs.has_room.Statement.{statement}
 use Rattle.octets_copies.proofs.has_room.Tie as tie
 

@@ -34,7 +34,10 @@ same-length : tie.Need-same-length
 same-length c = search needs
 
 returns : tie.Need-returns
-returns c = copy-block _ _ _ _ (c .before .before .before .before .before .before .before .pre .0) (c .before .before .before .before .before .before .before .pre .1) (c .before .before .put-sixteen .ensures)
+returns c =
+    let at-put = c .before .before in
+    let start = at-put .before .before .before .before .before in
+    copy-block _ _ _ _ (start .pre .0) (start .pre .1) (at-put .put-sixteen .ensures)
 
 pub put-block-spec : {M : Type 1} → statement M
 put-block-spec =

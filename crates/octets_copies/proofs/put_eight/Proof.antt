@@ -4,7 +4,7 @@ use native.Mathlib.Omega.{arith}
 use lib.ListN.{length}
 use Rattle.octets.specs.Octets.{patch, part}
 use Rattle.octets.proofs.Stores.{length-patch}
-use Rattle.octets_copies.proofs.Blocks.{block-over}
+use Rattle.octets.proofs.Parts.{block-over}
 use borrow.Author.Needs.{needs}
 use Rattle.octets_copies.proofs.put_eight.Statement.{statement}
 use Rattle.octets_copies.proofs.put_eight.Tie as tie
@@ -55,7 +55,8 @@ loop-again c =
     let pre = at-least .before .before .before .before .before .pre in (
       at-least .least .result + 16,
       omega arith,
-      block-over _ _ _ _ (inv .0) (at-least .least .result) 16 (omega arith) (omega arith) (omega arith) (omega arith) (inv .2) (at-put .put-block .ensures),
+      block-over _ _ _ _ (inv .0) (at-least .least .result) 16
+          (omega arith) (omega arith) (omega arith) (omega arith) (inv .2) (at-put .put-block .ensures),
     )
 
 same-length : tie.Need-same-length Inv-loop μ-loop

@@ -31,7 +31,19 @@ same-length : tie.Need-same-length
 same-length c = search needs
 
 returns : tie.Need-returns
-returns c = copy-sixteen _ _ (λ i. c .before .before .before .before .before .before .before .before .before .before .before .before .before .before .before .before .before .before .before .before .shared-slice-known .given i .fits) (c .before .before .before .before .before .before .before .before .before .before .before .before .before .before .before .before .before .before .before .before .before .before .pre) (c .before .before .before .before .before .before .before .before .before .before .before .before .before .before .before .before .before .before .before .be32 .ensures) (c .before .before .before .before .before .before .before .before .before .before .before .before .before .before .before .before .before .before .be322 .ensures) (c .before .before .before .before .before .before .before .before .before .before .before .before .before .before .before .before .before .be323 .ensures) (c .before .before .before .before .before .before .before .before .before .before .before .before .before .before .before .before .be324 .ensures) (c .before .before .before .before .before .before .before .before .before .before .before .before .before .before .put-be32 .ensures) (c .before .before .before .before .before .before .before .before .before .before .put-be322 .ensures) (c .before .before .before .before .before .before .put-be323 .ensures) (c .before .before .put-be324 .ensures)
+returns c =
+    let at-fourth = c .before .before in
+    let at-third = at-fourth .before .before .before .before in
+    let at-second = at-third .before .before .before .before in
+    let at-first = at-second .before .before .before .before in
+    let at-d = at-first .before .before in
+    let at-c = at-d .before in
+    let at-b = at-c .before in
+    let at-a = at-b .before in
+    let known = at-a .before in
+    copy-sixteen _ _ (λ i. known .shared-slice-known .given i .fits) (known .before .before .pre)
+    (at-a .be32 .ensures) (at-b .be322 .ensures) (at-c .be323 .ensures) (at-d .be324 .ensures)
+    (at-first .put-be32 .ensures) (at-second .put-be322 .ensures) (at-third .put-be323 .ensures) (at-fourth .put-be324 .ensures)
 
 pub put-sixteen-spec : {M : Type 1} → statement M
 put-sixteen-spec =

@@ -47,7 +47,8 @@ same-length-2 c = search needs
 
 returns-2 : tie.Need-returns-2
 returns-2 c =
-    patch-lent _ _ _ 4 _ (length-bytes 4 _) (there (c .before .before .before .before)) (le-of-eq refl) (c .before .before .put-be322 .ensures)
+    let at-put = c .before .before in
+    patch-lent _ _ _ 4 _ (length-bytes 4 _) (there (at-put .before .before)) (le-of-eq refl) (at-put .put-be322 .ensures)
 
 pub store32-spec : {M : Type 1} → statement M
 store32-spec =

@@ -70,7 +70,9 @@ slice-aggregate-put-entry : tie.Need-slice-aggregate-put-entry
 slice-aggregate-put-entry c = search needs
 
 put-entry-requires : tie.Need-put-entry-requires
-put-entry-requires c κs = (omega arith, path-sized _ (path-of _ (c .before .before .before .before .before .before .before .layout-of .ensures)))
+put-entry-requires c κs =
+    let at-layout-of = c .before .before .before .before .before .before .before in
+    (omega arith, path-sized _ (path-of _ (at-layout-of .layout-of .ensures)))
 
 add-put-be16 : tie.Need-add-put-be16
 add-put-be16 c =
@@ -84,7 +86,8 @@ put-be16-requires c κs = search needs
 
 add-t29 : tie.Need-add-t29
 add-t29 c =
-    let at-if1 = c .before .before .before .before .before .before .before .before .before .before .before .before .before .before .before .before .before in
+    let at-put-entry = c .before .before .before .before .before .before .before .before in
+    let at-if1 = at-put-entry .before .before .before .before .before .before .before .before .before in
     let at-start = at-if1 .before .before .before .before in
     let h : at-start .args .b .count < 65536 = omega (arith, c .struct-known6) in
     record { fits = count-room h (fit-count _ _ _ _ (at-if1 .before .is-unfit .ensures) (at-if1 .if1 .left) .0) }

@@ -51,7 +51,8 @@ put-path-requires c κs = search needs
 
 add-store16 : tie.Need-add-store16
 add-store16 c =
-    let start = c .before .before .before .before .before .before .before .before .before .before .before .before .before .before .before .before .before .before .before in
+    let at-originated = c .before .before .before .before .before .before .before .before in
+    let start = at-originated .before .before .before .before .before .before .before .before .before .before .before in
     omega (arith, sized-le (start .pre .1))
 
 cast-store16-2 : tie.Need-cast-store16-2
@@ -62,7 +63,8 @@ store16-requires-2 c κs = search needs
 
 add-put-octets : tie.Need-add-put-octets
 add-put-octets c =
-    let start = c .before .before .before .before .before .before .before .before .before .before .before .before .before .before .before .before .before .before .before .before .before .before .before in
+    let at-originated = c .before .before .before .before .before .before .before .before .before .before .before .before in
+    let start = at-originated .before .before .before .before .before .before .before .before .before .before .before in
     omega (arith, sized-le (start .pre .1))
 
 put-octets-requires : tie.Need-put-octets-requires

@@ -6,7 +6,7 @@ use borrow.Author.Needs.{needs}
 use Rattle.rib_head.proofs.Layouts.{path-sized}
 use Rattle.rib_head.proofs.Heads.{path-of}
 use Rattle.rib_write.proofs.ByRows.{Going, going-start, going-on, going-ends, going-full}
-use Rattle.rib_write.proofs.ByRows.{row-refused, row-stays, row-taken, row-size, row-stored, row-room}
+use Rattle.rib_write.proofs.ByRows.{row-refused, row-stays, row-taken, row-size, row-stored}
 use Rattle.rib_write.proofs.rows.push_rows.Statement.{statement}
 use Rattle.rib_write.proofs.rows.push_rows.Tie as tie
 

@@ -77,10 +77,14 @@ returns-5 : tie.Need-returns-5
 returns-5 c = put-refused _ _ _ _ _ (λ t. let h = c .if5 .taken in let l = t .size in omega arith)
 
 add-size : tie.Need-add-size
-add-size c = omega (arith, sized-le (c .before .before .before .before .before .before .before .before .before .before .before .before .before .pre .1))
+add-size c =
+    let start = c .before .before .before .before .before .before .before .before .before .before .before .before .before in
+    omega (arith, sized-le (start .pre .1))
 
 add-size-2 : tie.Need-add-size-2
-add-size-2 c = omega (arith, sized-le (c .before .before .before .before .before .before .before .before .before .before .before .before .before .pre .1), c .if5 .left)
+add-size-2 c =
+    let start = c .before .before .before .before .before .before .before .before .before .before .before .before .before in
+    omega (arith, sized-le (start .pre .1), c .if5 .left)
 
 returns-6 : tie.Need-returns-6
 returns-6 c = put-refused _ _ _ _ _ (λ t. let h = c .if6 .taken in let l = t .room in omega arith)
@@ -113,7 +117,9 @@ returns-7 c =
     let at-if2 = at-if3 .before .before .before in
     let at-if1 = at-if2 .before .before in
     let start = at-if1 .before .before .before .before .before .before in
-    let t : Taken (start .args .path) (start .args .rows .now) (start .args .at) (length (start .args .attributes .now)) (length (start .args .part .now)) =
+    let n = length (start .args .attributes .now) in
+    let room = length (start .args .part .now) in
+    let t : Taken (start .args .path) (start .args .rows .now) (start .args .at) n room =
     record {
       asked = record {
         peer = omega (arith, at-if1 .if1 .left);
