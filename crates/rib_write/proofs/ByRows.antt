@@ -7,7 +7,7 @@ use native.Mathlib.Nat.{add-zero, zero-add, sub-zero}
 use native.Mathlib.Omega.{arith}
 use lib.ListN.{length, take, drop, getD, take-append-drop}
 use lib.Dec.{ltb, eqb}
-use borrow.Author.Tests.{le-leb, leb-true, lt-ltb, le-ltb, ltb-true, ltb-false, eq-eqb, ne-eqb, eqb-true}
+use borrow.Author.Tests.{le-leb, leb-true, lt-ltb, le-ltb, ltb-true, ltb-false, eq-eqb, ne-eqb, eqb-true, eqb-false}
 use Rattle.answer.specs.Refusal.{numberOf, outcomeNumber}
 use Rattle.answer.specs.declared.Refusal.{Refusal}
 use Rattle.answer.specs.declared.Outcome.{Outcome}
@@ -254,6 +254,34 @@ module _ (s : List ℕ) (t : ℕ) (b : Builder) (rs : List ℕ) (at : ℕ) (buff
       → pushRows (suc k) s t b rs at buffer ≡ oneMore (pushRows k (p .output) t (builderAfter p) rs (at + 5) buffer)
   unfolding pushRows
   rows-one e z k = rw (e, eq-eqb _ 0 z)
+
+-- the row after those that went in is refused, where one is left
+pub rows-stop : (k : ℕ) (s : List ℕ) (t : ℕ) (b : Builder) (rs : List ℕ) (at : ℕ) (buffer : List ℕ)
+    → pushRows k s t b rs at buffer .rows < k
+    → pushRow (pushRows k s t b rs at buffer .output) t (pushRows k s t b rs at buffer .builder) rs
+    (at + 5 * pushRows k s t b rs at buffer .rows) buffer .number ≡ 0
+    → ⊥
+unfolding pushRows
+rows-stop zero s t b rs at buffer h z = omega arith
+rows-stop (suc k) s t b rs at buffer h z =
+    by-test (eqb (p .number) 0) refl (rows-stop k (p .output) t (builderAfter p) rs (at + 5) buffer) h z
+  where
+    p : Pushing
+    p = pushRow s t b rs at buffer
+
+    rest : Rowing
+    rest = pushRows k (p .output) t (builderAfter p) rs (at + 5) buffer
+
+    by-test : (u : Bool) → eqb (p .number) 0 ≡ u
+        → (rest .rows < k → pushRow (rest .output) t (rest .builder) rs (at + 5 + 5 * rest .rows) buffer .number ≡ 0 → ⊥)
+        → cond u (oneMore rest) (noRow b s) .rows < suc k
+        → pushRow (cond u (oneMore rest) (noRow b s) .output) t (cond u (oneMore rest) (noRow b s) .builder) rs
+        (at + 5 * cond u (oneMore rest) (noRow b s) .rows) buffer .number ≡ 0
+        → ⊥
+    by-test true e more h z =
+        let m : at + 5 * suc (rest .rows) ≡ at + 5 + 5 * rest .rows = omega arith in
+        more (omega arith) (rw m at z)
+    by-test false e more h z = eqb-false (p .number) 0 e (rw (add-zero at) at z)
 
 -- so many rows before others
 abbrev moreRows : ℕ → Rowing → Rowing

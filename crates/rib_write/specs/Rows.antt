@@ -19,7 +19,7 @@ use Rattle.rib_write.specs.declared.RowsAnswer.the-variants.{Pushed, Ref
 abbrev pub entryIn : List ℕ → ℕ → NewEntry
 entryIn rs at = record { peer = getD rs at 0; originated = getD rs (at + 1) 0; path = getD rs (at + 2) 0 }
 
--- its attributes, in the buffer buffer
+-- its attributes in the buffer
 abbrev pub attributesIn : List ℕ → ℕ → List ℕ → List ℕ
 attributesIn rs at buffer = part buffer (getD rs (at + 3) 0) (getD rs (at + 4) 0 - getD rs (at + 3) 0)
 
@@ -89,7 +89,7 @@ abbrev pub rowsValues : RowsAnswer → List ℕ → Rowed
 rowsValues (Pushed b n) s = rowed (record { rows = n; builder = b; output = s })
 rowsValues (Refused r) s = unrowed (numberOf r) s
 
--- the rows rs, their attributes in the buffer buffer, where the builder b stands in the output s
+-- the rows rs, their attributes in one buffer, where the builder b stands in the output s
 unfoldable pub pushEntries : List ℕ → ℕ → Builder → List ℕ → List ℕ → Rowed
 pushEntries s t b rs buffer =
     cond (eqb (length rs % 5) 0)
