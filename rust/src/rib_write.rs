@@ -140,7 +140,7 @@ impl<'a> RibBuilder<'a> {
     }
 }
 
-/// How many entries are written by one call.
+/// How many entries are written by one call. Not more: most bodies have few, and the rows are cleared first.
 const MOST: usize = 16;
 
 /// The next entries as rows, and how many: up to the places that there are, or up to one whose attributes are no part of the
