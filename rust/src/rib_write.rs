@@ -52,7 +52,8 @@ impl<'a> RibBuilder<'a> {
         Ok(RibBuilder { out, subtype, state })
     }
 
-    /// Writes one more entry. The entries before it are not looked at. For many, [`RibBuilder::extend_from`] is faster.
+    /// Writes one more entry. The entries before it are not looked at. For many whose attributes are parts of one buffer,
+    /// [`RibBuilder::extend_from`] is faster.
     ///
     /// # Errors
     ///
@@ -64,10 +65,10 @@ impl<'a> RibBuilder<'a> {
 
     /// Writes entries, one after another, up to the first that is refused.
     ///
-    /// Those whose attributes are parts of `buffer` are written many at a time, which is faster than [`push`] for each: a
-    /// record's body for the entries that were read from it, or a pool that holds the attributes of all. Any other is pushed
-    /// by itself, so that `buffer` decides nothing but the time. It is told by where the attributes stand in memory, not by
-    /// their octets.
+    /// Those whose attributes are parts of `buffer` are written many at a time, which from a handful of them on is faster than
+    /// [`push`] for each: give a record's body for the entries that were read from it, or a pool that holds the attributes of
+    /// all. Any other is pushed by itself, a little slower than by [`push`] alone, so that `buffer` decides nothing but the
+    /// time. Which it is, is told by where the attributes stand in memory, not by their octets.
     ///
     /// # Errors
     ///
@@ -112,6 +113,10 @@ impl<'a> RibBuilder<'a> {
 
     /// Writes rows. The first that does not go in is pushed by itself, which says why; none after it is.
     fn push_rows(&mut self, buffer: &[u8], rows: &[[u64; 5]]) -> Result<(), Refusal> {
+        // No call for nothing: between entries that are no part of the buffer it would cost half a push.
+        if rows.is_empty() {
+            return Ok(());
+        }
         let pushed = boundary::push_entries(self.out, self.subtype, &mut self.state, rows, buffer);
         let left = rows.get(pushed..).unwrap_or_default();
         left.iter().try_for_each(|row| self.push(&Entry::of(buffer, *row)))
