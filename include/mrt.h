@@ -56,7 +56,7 @@ typedef struct mrt_written {
     uint32_t refusal;
 } mrt_written;
 
-/* What a call that hands out rows of values returns: a refusal's number or 0, and how many rows, 0 where it has refused. */
+/* What a call for many rows of values returns: a refusal's number or 0, and how many rows it served, 0 where it has refused. */
 typedef struct mrt_handed {
     uint64_t count;
     uint32_t refusal;
@@ -234,6 +234,18 @@ uint32_t mrt_open_rib(const uint8_t *body, size_t body_len, uint16_t subtype, ui
  */
 uint32_t mrt_push_entry(uint8_t *out, size_t out_len, uint16_t subtype, uint64_t *builder, size_t builder_len, uint16_t peer,
                         uint32_t originated, uint32_t path, const uint8_t *attributes, size_t attributes_len);
+
+/*
+ * Writes entries where a builder stands, one after another, as long as mrt_push_entry would accept each: many pushes by one call.
+ * `rows` has five values for each entry, as mrt_rib_entries hands them out: peer index, originated time, path number, where its
+ * attributes start in `attributes`, where they end. `rows_len` counts values. The builder is moved past the entries. Where fewer go
+ * in than were given, mrt_push_entry says of the next one why; a row that it cannot be asked about stops them too (a peer index
+ * above 65,535, a time or path number above 4,294,967,295, a start after the end, an end beyond `attributes`).
+ * Refusals: 8 (fewer than three builder places, a count above 65,535, rows that are no whole number of rows, a builder beyond
+ * `out`), 6, 7 (as for mrt_push_entry), which leave everything as it was.
+ */
+mrt_handed mrt_push_entries(uint8_t *out, size_t out_len, uint16_t subtype, uint64_t *builder, size_t builder_len,
+                            const uint64_t *rows, size_t rows_len, const uint8_t *attributes, size_t attributes_len);
 
 /* The record's timestamp minus the originated time, in seconds: below zero where the route is later than the record. */
 int64_t mrt_age(uint32_t timestamp, uint32_t originated);

@@ -110,11 +110,13 @@ fn entries() {
         Row::new("RIB entries read by the cursor", "entries"),
         Row::new("RIB entries read by number", "entries"),
         Row::new("RIB body built by open_rib and push_entry", "entries"),
+        Row::new("RIB body built by open_rib and push_entries", "entries"),
         Row::new("RIB body built by add_entry", "entries"),
     ];
     for count in [1_000, 4_000, 16_000] {
         let rib = Rib::new(count);
-        let works = [rib.read("read"), rib.read_by_number("number"), rib.build("build"), rib.add("add")];
+        let built = [rib.build("build"), rib.build_by_rows("rows"), rib.add("add")];
+        let works = [rib.read("read"), rib.read_by_number("number")].into_iter().chain(built);
         rows.iter_mut().zip(works).for_each(|(row, work)| row.add(count, work));
     }
     rows.iter().for_each(Row::print);

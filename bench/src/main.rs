@@ -89,4 +89,6 @@ fn main() {
     let rib = Rib::new(65_535);
     chosen.run(rib.read("RIB record of 65,535 entries, read"));
     chosen.run(rib.build("RIB record of 65,535 entries, built"));
+    chosen.run(rib.build_by_rows("RIB record of 65,535 entries, built by rows"));
+    chosen.run(rib.build_by_ready_rows("RIB record of 65,535 entries, built by rows held ready"));
 }

@@ -121,6 +121,21 @@ pub struct NewEntry<'a> {
     pub attributes: &'a [u8],
 }
 
+/// Entries to be written, five values each: peer index, originated time, path number, where the attributes start in the one
+/// buffer, where they end. The values may be any.
+#[derive(Debug, Clone, Copy, PartialEq, Eq, Default)]
+pub struct NewRows<'a> {
+    pub values: &'a [u64],
+    pub attributes: &'a [u8],
+}
+
+/// How many rows went into a body, and the builder after them.
+#[derive(Debug, Clone, Copy, PartialEq, Eq, Default)]
+pub struct Rowed {
+    pub rows: usize,
+    pub builder: Builder,
+}
+
 /// A candidate of the scan. `family` is 5 or 16; all is 0 where no candidate stands.
 #[derive(Debug, Clone, Copy, PartialEq, Eq, Default)]
 pub struct Candidate {

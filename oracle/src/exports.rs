@@ -10,7 +10,7 @@ pub struct Written {
     pub refusal: u32,
 }
 
-/// What a call that hands out rows returns: how many, 0 where it refuses.
+/// What a call for many rows returns: how many it served, 0 where it refuses.
 #[repr(C)]
 #[derive(Debug, Clone, Copy, PartialEq, Eq)]
 pub struct Handed {
@@ -155,6 +155,17 @@ mod raw {
             attributes: *const u8,
             attributes_len: usize,
         ) -> u32;
+        pub fn mrt_push_entries(
+            out: *mut u8,
+            room: usize,
+            subtype: u16,
+            builder: *mut u64,
+            builder_places: usize,
+            rows: *const u64,
+            values: usize,
+            attributes: *const u8,
+            attributes_len: usize,
+        ) -> Handed;
     }
 }
 
@@ -300,4 +311,12 @@ pub fn push_entry(out: &mut [u8], subtype: u16, builder: &mut [u64; 3], e: &NewE
     let (lent, room, places) = (out.as_mut_ptr(), out.len(), builder.as_mut_ptr());
     let (attributes, m) = (e.attributes.as_ptr(), e.attributes.len());
     unsafe { raw::mrt_push_entry(lent, room, subtype, places, 3, e.peer_index, e.originated, e.path, attributes, m) }
+}
+
+/// Five values are a row, its attributes a part of `attributes`.
+#[inline]
+pub fn push_entries(out: &mut [u8], subtype: u16, builder: &mut [u64; 3], rows: &[u64], attributes: &[u8]) -> Handed {
+    let (lent, room, places) = (out.as_mut_ptr(), out.len(), builder.as_mut_ptr());
+    let (from, m) = (attributes.as_ptr(), attributes.len());
+    unsafe { raw::mrt_push_entries(lent, room, subtype, places, 3, rows.as_ptr(), rows.len(), from, m) }
 }

@@ -1,10 +1,10 @@
 //! The proved library, asked through its C exports (`include/mrt.h`). It is to have no difference from the reading.
 
 use crate::answers::{
-    Address, Answer, Builder, Candidate, Event, Frame, Header, NewEntry, Peer, PeerTable, RibEntry, RibStep, RibTable,
-    Walk,
+    Address, Answer, Builder, Candidate, Event, Frame, Header, NewEntry, NewRows, Peer, PeerTable, RibEntry, RibStep,
+    RibTable, Rowed, Walk,
 };
-use crate::exports::{self, Found, Written};
+use crate::exports::{self, Found, Handed, Written};
 use crate::question::{Question, Reply};
 use crate::subject::{NewHead, NewTable, Subject};
 
@@ -114,6 +114,34 @@ fn records_agree(stream: &[u8], walk: [u64; 2]) -> bool {
         && many == by_one
 }
 
+/// A builder as its three numbers, and back.
+fn places(builder: Builder) -> [u64; 3] {
+    [builder.length as u64, builder.count_at as u64, builder.count]
+}
+
+fn builder([length, count_at, count]: [u64; 3]) -> Builder {
+    Builder { length: length as usize, count_at: count_at as usize, count }
+}
+
+/// One entry pushed, and by the call that takes many on copies, which is to do the same. That call stops at a value that does
+/// not fit and for want of room, and does not refuse.
+fn pushed_both_ways(buffer: &mut [u8], subtype: u16, builder: &mut [u64; 3], entry: &NewEntry) -> u32 {
+    let (mut copy, mut other) = (buffer.to_vec(), *builder);
+    let NewEntry { peer_index, originated, path, attributes } = *entry;
+    let row = [peer_index.into(), originated.into(), path.into(), 0, attributes.len() as u64];
+    let rowed = exports::push_entries(&mut copy, subtype, &mut other, &row, attributes);
+    let refusal = exports::push_entry(buffer, subtype, builder, entry);
+    let expected = match refusal {
+        0 => Handed { count: 1, refusal },
+        9 | 10 => Handed { count: 0, refusal: 0 },
+        _ => Handed { count: 0, refusal },
+    };
+    if rowed != expected || copy != buffer || other != *builder {
+        return AT_ODDS.into();
+    }
+    refusal
+}
+
 /// The entry added by a builder that is opened for it.
 fn pushed(buffer: &mut [u8], length: usize, subtype: u16, entry: &NewEntry) -> Written {
     let refused = |refusal| Written { octets: 0, refusal };
@@ -125,7 +153,7 @@ fn pushed(buffer: &mut [u8], length: usize, subtype: u16, entry: &NewEntry) -> W
         return refused(refusal);
     }
     let before = builder;
-    match exports::push_entry(buffer, subtype, &mut builder, entry) {
+    match pushed_both_ways(buffer, subtype, &mut builder, entry) {
         0 => Written { octets: builder[0], refusal: 0 },
         refusal if builder == before => refused(refusal),
         _ => refused(u32::from(AT_ODDS)),
@@ -256,7 +284,7 @@ impl Subject for Proved {
         written(exports::begin_rib(out, head.subtype, head.sequence, head.bits, &head.prefix))
     }
 
-    /// The entry added to the body, and by a builder on a copy, which is to write the same.
+    /// The entry added to the body, and by a builder on a copy, alone and as a row, which is to write the same.
     fn rib_add(&self, buffer: &mut [u8], length: usize, subtype: u16, entry: &NewEntry) -> Option<Answer<usize>> {
         let mut copy = buffer.to_vec();
         let by_builder = pushed(&mut copy, length, subtype, entry);
@@ -268,14 +296,23 @@ impl Subject for Proved {
     }
 
     /// The builder's places after a refusal are to be as they were.
-    fn rib_push(&self, buffer: &mut [u8], subtype: u16, builder: Builder, entry: &NewEntry) -> Option<Answer<Builder>> {
-        let before = [builder.length as u64, builder.count_at as u64, builder.count];
-        let mut places = before;
-        let refusal = exports::push_entry(buffer, subtype, &mut places, entry);
-        let [length, count_at, count] = places;
-        Some(match refusal {
-            0 => Ok(Builder { length: length as usize, count_at: count_at as usize, count }).into(),
-            refusal if places == before => Err(refusal as u8).into(),
+    fn rib_push(&self, buffer: &mut [u8], subtype: u16, before: Builder, entry: &NewEntry) -> Option<Answer<Builder>> {
+        let mut after = places(before);
+        Some(match pushed_both_ways(buffer, subtype, &mut after, entry) {
+            0 => Ok(builder(after)).into(),
+            refusal if after == places(before) => Err(refusal as u8).into(),
+            _ => Err(AT_ODDS).into(),
+        })
+    }
+
+    /// A refusal of the rows, too, is to leave the builder's places, and to count none.
+    fn rib_push_rows(&self, buffer: &mut [u8], subtype: u16, before: Builder, rows: &NewRows) -> Option<Answer<Rowed>> {
+        let mut after = places(before);
+        let Handed { count, refusal } =
+            exports::push_entries(buffer, subtype, &mut after, rows.values, rows.attributes);
+        Some(match (refusal, count) {
+            (0, _) => Ok(Rowed { rows: count as usize, builder: builder(after) }).into(),
+            (_, 0) if after == places(before) => Err(refusal as u8).into(),
             _ => Err(AT_ODDS).into(),
         })
     }

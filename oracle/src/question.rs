@@ -1,8 +1,8 @@
 //! One question with its input, put to any subject, and the reply with the lent memory as the call left it.
 
 use crate::answers::{
-    Address, Answer, Builder, Candidate, Event, Found, Frame, Header, NewEntry, Peer, PeerTable, RibEntry, RibStep,
-    RibTable, Tried, Walk,
+    Address, Answer, Builder, Candidate, Event, Found, Frame, Header, NewEntry, NewRows, Peer, PeerTable, RibEntry,
+    RibStep, RibTable, Rowed, Tried, Walk,
 };
 use crate::subject::{NewHead, NewTable, Subject};
 
@@ -24,6 +24,7 @@ pub enum Question<'a> {
     RibBegin { room: &'a [u8], head: NewHead },
     RibAdd { buffer: &'a [u8], length: usize, subtype: u16, entry: NewEntry<'a> },
     RibPush { buffer: &'a [u8], subtype: u16, builder: Builder, entry: NewEntry<'a> },
+    RibPushRows { buffer: &'a [u8], subtype: u16, builder: Builder, rows: NewRows<'a> },
     Candidate { stream: &'a [u8], at: usize },
     Aligned { stream: &'a [u8], from: usize, asked: u8 },
     Scan { stream: &'a [u8], from: usize, window: usize, asked: u8 },
@@ -45,6 +46,7 @@ pub enum Reply {
     Entry(Answer<RibEntry>),
     RibStep(Answer<RibStep>),
     Pushed(Answer<Builder>, Vec<u8>),
+    Rowed(Answer<Rowed>, Vec<u8>),
     Candidate(Answer<Candidate>),
     Tried(Tried),
     Found(Found),
@@ -120,6 +122,11 @@ impl Question<'_> {
                 let answer = subject.rib_push(&mut out, subtype, builder, &entry)?;
                 Some(Reply::Pushed(answer, out))
             }
+            Question::RibPushRows { buffer, subtype, builder, rows } => {
+                let mut out = buffer.to_vec();
+                let answer = subject.rib_push_rows(&mut out, subtype, builder, &rows)?;
+                Some(Reply::Rowed(answer, out))
+            }
             _ => unreachable!("every other question is put above"),
         }
     }
@@ -142,6 +149,7 @@ impl Question<'_> {
             Question::RibBegin { .. } => "rib begin",
             Question::RibAdd { .. } => "rib add",
             Question::RibPush { .. } => "rib push",
+            Question::RibPushRows { .. } => "rib push by rows",
             Question::Candidate { .. } => "candidate",
             Question::Aligned { .. } => "aligned try",
             Question::Scan { .. } => "scan",
@@ -168,7 +176,7 @@ impl Question<'_> {
             | Question::RibRead { body, .. }
             | Question::RibEntry { body, .. }
             | Question::RibNext { body, .. } => body,
-            Question::RibPush { buffer, .. } => buffer,
+            Question::RibPush { buffer, .. } | Question::RibPushRows { buffer, .. } => buffer,
             Question::RibAdd { buffer, length, .. } => buffer.get(..length).unwrap_or(buffer),
             _ => &[],
         }

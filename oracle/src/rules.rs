@@ -1,6 +1,6 @@
 //! What 01 promises of every single reply, checked without a second opinion.
 
-use crate::answers::{Answer, Event, RibTable, Walk};
+use crate::answers::{Answer, Event, RibTable, Rowed, Walk};
 use crate::question::{Question, Reply};
 use crate::subject::most_calls;
 
@@ -23,6 +23,12 @@ pub fn broken(question: &Question, reply: &Reply) -> Option<&'static str> {
         (_, Reply::RibStep(answer)) => broken_by_refusal(answer),
         (Question::RibPush { buffer, .. }, Reply::Pushed(answer, after)) => {
             broken_by_refusal(answer).or_else(|| broken_by_writing(buffer, after, 0..answer.value.length))
+        }
+        (Question::RibPushRows { buffer, builder, .. }, Reply::Rowed(answer, after)) => {
+            let Rowed { rows, builder: next } = answer.value;
+            broken_by_refusal(answer)
+                .or_else(|| broken_by_writing(buffer, after, 0..next.length))
+                .or_else(|| broken_by_rows(answer.refusal, builder.count, rows, next.count))
         }
         (Question::PeerRead { slots, .. }, Reply::Table(answer, after)) => {
             broken_by_refusal(answer).or_else(|| broken_by_writing(slots, after, 0..answer.value.count))
@@ -63,6 +69,12 @@ fn broken_by_writing<T: PartialEq>(before: &[T], after: &[T], range: std::ops::R
         && before[..range.start] == after[..range.start]
         && before[range.end..] == after[range.end..];
     (!kept).then_some("lent memory was changed beyond what was written")
+}
+
+/// Each row is an entry more.
+fn broken_by_rows(refusal: u8, before: u64, rows: usize, after: u64) -> Option<&'static str> {
+    let counted = refusal != 0 || after == before + rows as u64;
+    (!counted).then_some("the count is not raised by the rows")
 }
 
 /// Where the walk stands after each kind of answer.

@@ -1,8 +1,8 @@
 //! Whoever answers 01's questions: the plain reading, the crate, and later the proved library through its C exports.
 
 use crate::answers::{
-    Address, Answer, Builder, Candidate, Event, Found, Frame, Header, NewEntry, Peer, PeerTable, RibEntry, RibStep,
-    RibTable, Tried, Walk,
+    Address, Answer, Builder, Candidate, Event, Found, Frame, Header, NewEntry, NewRows, Peer, PeerTable, RibEntry,
+    RibStep, RibTable, Rowed, Tried, Walk,
 };
 use crate::reading;
 
@@ -74,6 +74,17 @@ pub trait Subject {
 
     /// The entry where a builder stands; the builder after it is answered.
     fn rib_push(&self, buffer: &mut [u8], subtype: u16, builder: Builder, entry: &NewEntry) -> Option<Answer<Builder>> {
+        None
+    }
+
+    /// The entries of rows where a builder stands, up to the first that is refused.
+    fn rib_push_rows(
+        &self,
+        buffer: &mut [u8],
+        subtype: u16,
+        builder: Builder,
+        rows: &NewRows,
+    ) -> Option<Answer<Rowed>> {
         None
     }
 
@@ -207,6 +218,16 @@ impl Subject for Reading {
 
     fn rib_push(&self, buffer: &mut [u8], subtype: u16, builder: Builder, entry: &NewEntry) -> Option<Answer<Builder>> {
         Some(reading::push_entry(buffer, subtype, builder, entry))
+    }
+
+    fn rib_push_rows(
+        &self,
+        buffer: &mut [u8],
+        subtype: u16,
+        builder: Builder,
+        rows: &NewRows,
+    ) -> Option<Answer<Rowed>> {
+        Some(reading::push_rows(buffer, subtype, builder, rows))
     }
 
     fn candidate(&self, stream: &[u8], at: usize) -> Option<Answer<Candidate>> {

@@ -87,6 +87,9 @@ fn table_settings(question: &Question) -> String {
         Question::RibPush { subtype, builder, entry, .. } => {
             format!("subtype {subtype}, {builder:?}, {}", new_entry(entry))
         }
+        Question::RibPushRows { subtype, builder, rows, .. } => {
+            format!("subtype {subtype}, {builder:?}, rows {:?}, attributes {}", rows.values, octets(rows.attributes))
+        }
         other => format!("{other:?}"),
     }
 }
@@ -102,6 +105,7 @@ pub fn reply(reply: &Reply) -> String {
         Reply::Added(answer, held) => format!("{answer:?}, slots {}", slots(held)),
         Reply::Written(answer, out) => format!("{answer:?}, output {}", octets(out)),
         Reply::Pushed(answer, out) => format!("{answer:?}, output {}", octets(out)),
+        Reply::Rowed(answer, out) => format!("{answer:?}, output {}", octets(out)),
         other => format!("{other:?}"),
     }
 }

@@ -16,7 +16,7 @@ struct Written {
     refusal: u32,
 }
 
-/// What a call answers that hands out rows: how many, 0 where refused.
+/// What a call for many rows answers: how many, 0 where refused.
 #[repr(C)]
 struct Handed {
     count: u64,
@@ -157,6 +157,17 @@ unsafe extern "C" {
         attributes: *const u8,
         attributes_len: usize,
     ) -> u32;
+    fn mrt_push_entries(
+        out: *mut u8,
+        out_len: usize,
+        subtype: u16,
+        builder: *mut u64,
+        builder_len: usize,
+        rows: *const u64,
+        rows_len: usize,
+        attributes: *const u8,
+        attributes_len: usize,
+    ) -> Handed;
 }
 
 /// The values that a call leaves in its places, or its refusal. There are places for all, so 9 for want of them never comes.
@@ -302,9 +313,8 @@ pub(crate) fn rib_entries(body: &[u8], subtype: u16, cursor: &mut [u64; 2], rows
     let out = rows.as_flattened_mut();
     let (state, state_len) = (cursor.as_mut_ptr(), cursor.len());
     // SAFETY: each slice is lent with its own length, and the two that are written are borrowed apart.
-    let handed = unsafe {
-        mrt_rib_entries(body.as_ptr(), body.len(), subtype, state, state_len, out.as_mut_ptr(), out.len())
-    };
+    let handed =
+        unsafe { mrt_rib_entries(body.as_ptr(), body.len(), subtype, state, state_len, out.as_mut_ptr(), out.len()) };
     handed.count as usize
 }
 
@@ -365,4 +375,33 @@ pub(crate) fn push_entry(
             octets_len,
         )
     })
+}
+
+/// How many rows went in, each as `rib_entry` has it, its attributes a part of `attributes`: those before the first that
+/// `push_entry` refuses. Of a builder that stands the call refuses none.
+pub(crate) fn push_entries(
+    out: &mut [u8],
+    subtype: u16,
+    builder: &mut [u64; 3],
+    rows: &[[u64; 5]],
+    attributes: &[u8],
+) -> usize {
+    let rows = rows.as_flattened();
+    let (state, state_len) = (builder.as_mut_ptr(), builder.len());
+    let (octets, octets_len) = (attributes.as_ptr(), attributes.len());
+    // SAFETY: each slice is lent with its own length, and the two that are written are borrowed apart.
+    let handed = unsafe {
+        mrt_push_entries(
+            out.as_mut_ptr(),
+            out.len(),
+            subtype,
+            state,
+            state_len,
+            rows.as_ptr(),
+            rows.len(),
+            octets,
+            octets_len,
+        )
+    };
+    handed.count as usize
 }

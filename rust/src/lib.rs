@@ -29,7 +29,7 @@
 //!
 //! - [`Walk`] goes through a stream: [`Record`]s and [`Gap`]s, each once and in order.
 //! - [`Record::peer_index`] and [`PeerTable`]: who the peers are. [`Record::rib`] and [`Entries`]: their routes.
-//! - [`NewHeader`], [`PeerTable::write`] and [`RibBuilder`] write.
+//! - [`NewHeader`], [`PeerTable::write`] and [`RibBuilder`] write; [`RibBuilder::extend_from`] writes many routes at a time.
 //! - [`Header`], [`Frame`], [`check_body`] and [`Candidate`] are the parts that a walk is made of.
 //!
 //! # Refusals

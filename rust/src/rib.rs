@@ -103,13 +103,23 @@ pub struct Entry<'a> {
 
 impl<'a> Entry<'a> {
     /// The entry of an answer's values.
-    fn of(body: &'a [u8], [peer, originated, path, start, end]: [u64; 5]) -> Entry<'a> {
+    pub(crate) fn of(body: &'a [u8], [peer, originated, path, start, end]: [u64; 5]) -> Entry<'a> {
         Entry {
             peer: peer as u16,
             originated: originated as u32,
             path: path as u32,
             attributes: part(body, start, end),
         }
+    }
+
+    /// Its values where its attributes are a part of a buffer: they stand at the same place in memory.
+    pub(crate) fn values_in(&self, buffer: &[u8]) -> Option<[u64; 5]> {
+        let start = match self.attributes {
+            [] => 0,
+            octets => octets.as_ptr().addr().checked_sub(buffer.as_ptr().addr())?,
+        };
+        let end = start.checked_add(self.attributes.len()).filter(|end| *end <= buffer.len())?;
+        Some([self.peer.into(), self.originated.into(), self.path.into(), start as u64, end as u64])
     }
 
     /// How old the route was when its record was written, in seconds: below zero where it is later than the record.

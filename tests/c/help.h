@@ -65,6 +65,14 @@ static inline uint8_t *untouched(size_t n) {
     return p;
 }
 
+/* The number v in n octets, the highest first, and where they end. */
+static inline size_t put(uint8_t *to, size_t at, size_t n, uint64_t v) {
+    for (size_t i = 0; i < n; i++) {
+        to[at + i] = (uint8_t)(v >> (8 * (n - 1 - i)));
+    }
+    return at + n;
+}
+
 /* Whether n octets are these. Of none, whether there are none. */
 static inline int same(const void *a, const void *b, size_t n) { return !n || !memcmp(a, b, n); }
 

@@ -5,14 +5,6 @@
  */
 #include "help.h"
 
-/* The number v in n octets, the highest first. */
-static size_t put(uint8_t *to, size_t at, size_t n, uint64_t v) {
-    for (size_t i = 0; i < n; i++) {
-        to[at + i] = (uint8_t)(v >> (8 * (n - 1 - i)));
-    }
-    return at + n;
-}
-
 /* The answer of a writer that was lent `len` octets and should have left `want` in them: `size` octets, or a refusal. */
 static void wrote(const char *what, mrt_written got, const uint8_t *out, const uint8_t *want, size_t len, size_t size,
                   uint32_t number) {

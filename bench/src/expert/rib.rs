@@ -125,6 +125,20 @@ impl Builder {
     /// One more entry in the output that holds the body: 8, 10, 9.
     #[inline(always)]
     pub fn push(&mut self, out: &mut [u8], entry: &NewEntry) -> Result<(), u8> {
+        self.put(out, entry)?;
+        self.store_count(out);
+        Ok(())
+    }
+
+    /// The count of the entries, in the head.
+    #[inline(always)]
+    pub fn store_count(&self, out: &mut [u8]) {
+        out[self.at..self.at + 2].copy_from_slice(&self.count.to_be_bytes());
+    }
+
+    /// The entry alone: the count in the head stays.
+    #[inline(always)]
+    pub fn put(&mut self, out: &mut [u8], entry: &NewEntry) -> Result<(), u8> {
         let fixed = self.layout.fixed;
         let count = self.count.checked_add(1).ok_or(10)?;
         let length = u16::try_from(entry.attributes.len()).map_err(|_| 10)?;
@@ -140,7 +154,6 @@ impl Builder {
         }
         octets[fixed - 2..fixed].copy_from_slice(&length.to_be_bytes());
         octets[fixed..].copy_from_slice(entry.attributes);
-        out[self.at..self.at + 2].copy_from_slice(&count.to_be_bytes());
         (self.len, self.count) = (self.len + size, count);
         Ok(())
     }

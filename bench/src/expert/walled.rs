@@ -64,6 +64,38 @@ pub fn rib_entries(body: &[u8], subtype: u16, cursor: &mut [u64; 2], rows: &mut 
     count
 }
 
+/// Entries of rows where a builder stands, up to the first that does not go in, and how many. The count in the head is stored
+/// once, after all of them, which is faster.
+#[inline(never)]
+pub fn push_entries(out: &mut [u8], subtype: u16, state: &mut [u64; 3], rows: &[[u64; 5]], attributes: &[u8]) -> usize {
+    let Some(mut builder) = Builder::at(subtype, *state) else {
+        return 0;
+    };
+    let mut count = 0;
+    for row in rows {
+        let Some(entry) = entry(row, attributes) else {
+            break;
+        };
+        if builder.put(out, &entry).is_err() {
+            break;
+        }
+        count += 1;
+    }
+    builder.store_count(out);
+    *state = builder.state();
+    count
+}
+
+/// The entry of a row, where its values fit.
+#[inline(always)]
+fn entry<'a>(&[peer, originated, path, start, end]: &[u64; 5], attributes: &'a [u8]) -> Option<NewEntry<'a>> {
+    if peer >> 16 | originated >> 32 | path >> 32 != 0 {
+        return None;
+    }
+    let attributes = attributes.get(start as usize..end as usize)?;
+    Some(NewEntry { peer_index: peer as u16, originated: originated as u32, path: path as u32, attributes })
+}
+
 /// One more entry where a builder stands: 0, or the refusal.
 #[inline(never)]
 pub fn push_entry(out: &mut [u8], subtype: u16, state: &mut [u64; 3], entry: &NewEntry) -> u32 {

@@ -81,21 +81,55 @@ impl Rib {
         new.collect()
     }
 
-    /// The body from its entries. The crate's are held ready; only its writing is timed.
-    pub fn build(&self, name: &str) -> Work<'_> {
+    /// The body from its entries, by calls of ours and by the expert's behind the wall. The crate's entries are held ready; only
+    /// its writing is timed.
+    fn built<'a>(
+        &'a self,
+        name: &str,
+        by_ours: impl Fn(&mut [u8]) -> u64 + 'a,
+        by_walled: impl Fn(&mut [u8]) -> u64 + 'a,
+    ) -> Work<'a> {
         let [mut ours, mut theirs, mut walled] = [(); 3].map(|()| vec![0; self.body.len()]);
-        let [by_ours, by_expert, by_walled] = [(); 3].map(|()| self.entries());
-        build_by_ours(&mut ours, &by_ours);
+        let by_expert = self.entries();
+        by_ours(&mut ours);
         assert_eq!(ours, self.body, "{name}: the octets of the proved calls");
+        by_walled(&mut walled);
+        assert_eq!(walled, self.body, "{name}: the octets of the expert's calls");
         assert_eq!(self.by_crate.encode().as_deref().ok(), Some(&self.body[..]), "{name}: the crate's octets");
         let octets = move || self.by_crate.encode().map_or(0, |octets| octets.len() as u64);
         Work {
             name: name.to_string(),
             by_crate: Some(Box::new(octets)),
             expert: Box::new(move || build_by_expert(&mut theirs, &by_expert)),
-            walled: Some(Box::new(move || build_walled(&mut walled, &by_walled))),
-            ours: Box::new(move || build_by_ours(&mut ours, &by_ours)),
+            walled: Some(Box::new(move || by_walled(&mut walled))),
+            ours: Box::new(move || by_ours(&mut ours)),
         }
+    }
+
+    /// One call for each entry.
+    pub fn build(&self, name: &str) -> Work<'_> {
+        let [by_ours, by_walled] = [(); 2].map(|()| self.entries());
+        self.built(name, move |out| build_by_ours(out, &by_ours), move |out| build_walled(out, &by_walled))
+    }
+
+    /// Calls for many entries, whose rows are made from the same entries between the calls.
+    pub fn build_by_rows(&self, name: &str) -> Work<'_> {
+        let [by_ours, by_walled] = [(); 2].map(|()| self.entries());
+        let ours = move |out: &mut [u8]| by_chunks(begun(out), out, &by_ours, &self.body, push_by_ours);
+        let walled = move |out: &mut [u8]| by_chunks(begun_by_expert(out), out, &by_walled, &self.body, push_walled);
+        self.built(name, ours, walled)
+    }
+
+    /// One call for all entries, whose rows are held ready.
+    pub fn build_by_ready_rows(&self, name: &str) -> Work<'_> {
+        let [by_ours, by_walled] = [(); 2].map(|()| self.rows());
+        let ours = move |out: &mut [u8]| at_once(begun(out), out, &by_ours, &self.body, push_by_ours);
+        let walled = move |out: &mut [u8]| at_once(begun_by_expert(out), out, &by_walled, &self.body, push_walled);
+        self.built(name, ours, walled)
+    }
+
+    fn rows(&self) -> Vec<[u64; 5]> {
+        self.entries().iter().map(|entry| row(entry, &self.body)).collect()
     }
 
     /// The same by the call that passes over all earlier entries, which the crate has no form for.
@@ -176,19 +210,78 @@ fn read_by_crate(body: &Bytes) -> u64 {
     sum
 }
 
-fn build_by_ours(out: &mut [u8], entries: &[NewEntry]) -> u64 {
+/// A builder of a body that is begun.
+fn begun(out: &mut [u8]) -> [u64; 3] {
     let head = exports::begin_rib(out, SUBTYPE, SEQUENCE, BITS, &PREFIX).octets as usize;
-    let (_, mut builder) = exports::open_rib(&out[..head], SUBTYPE);
+    exports::open_rib(&out[..head], SUBTYPE).1
+}
+
+fn begun_by_expert(out: &mut [u8]) -> [u64; 3] {
+    begin(out, SUBTYPE, SEQUENCE, BITS, &PREFIX).expect("the head fits").state()
+}
+
+fn build_by_ours(out: &mut [u8], entries: &[NewEntry]) -> u64 {
+    let mut builder = begun(out);
     let refusals: u32 = entries.iter().map(|entry| exports::push_entry(out, SUBTYPE, &mut builder, entry)).sum();
     builder[0] - u64::from(refusals)
 }
 
 /// The expert's call behind the same wall.
 fn build_walled(out: &mut [u8], entries: &[NewEntry]) -> u64 {
-    let builder: Builder = begin(out, SUBTYPE, SEQUENCE, BITS, &PREFIX).expect("the head fits");
-    let mut state = builder.state();
+    let mut state = begun_by_expert(out);
     let refusals: u32 = entries.iter().map(|entry| walled::push_entry(out, SUBTYPE, &mut state, entry)).sum();
     state[0] - u64::from(refusals)
+}
+
+/// How many entries go in by one call, where their rows are made between the calls. 32 to 128 are about alike; fewer, and many
+/// more, are slower.
+const PUSHED: usize = 64;
+
+/// An entry's values, its attributes by where they stand in the body that they are a part of.
+#[inline(always)]
+fn row(entry: &NewEntry, body: &[u8]) -> [u64; 5] {
+    let start = (entry.attributes.as_ptr() as usize - body.as_ptr() as usize) as u64;
+    let [peer, originated, path] = [u32::from(entry.peer_index), entry.originated, entry.path].map(u64::from);
+    [peer, originated, path, start, start + entry.attributes.len() as u64]
+}
+
+/// The body begun by a builder, given entries whose rows are made between the calls.
+#[inline(always)]
+fn by_chunks(
+    mut builder: [u64; 3],
+    out: &mut [u8],
+    entries: &[NewEntry],
+    body: &[u8],
+    push: impl Fn(&mut [u8], &mut [u64; 3], &[[u64; 5]], &[u8]) -> usize,
+) -> u64 {
+    let (mut rows, mut refused) = ([[0; 5]; PUSHED], 0);
+    for chunk in entries.chunks(PUSHED) {
+        rows.iter_mut().zip(chunk).for_each(|(place, entry)| *place = row(entry, body));
+        refused += chunk.len() - push(out, &mut builder, &rows[..chunk.len()], body);
+    }
+    builder[0] - refused as u64
+}
+
+/// The same by one call.
+#[inline(always)]
+fn at_once(
+    mut builder: [u64; 3],
+    out: &mut [u8],
+    rows: &[[u64; 5]],
+    body: &[u8],
+    push: impl Fn(&mut [u8], &mut [u64; 3], &[[u64; 5]], &[u8]) -> usize,
+) -> u64 {
+    let refused = rows.len() - push(out, &mut builder, rows, body);
+    builder[0] - refused as u64
+}
+
+fn push_by_ours(out: &mut [u8], builder: &mut [u64; 3], rows: &[[u64; 5]], attributes: &[u8]) -> usize {
+    exports::push_entries(out, SUBTYPE, builder, rows.as_flattened(), attributes).count as usize
+}
+
+/// The expert's call behind the same wall.
+fn push_walled(out: &mut [u8], builder: &mut [u64; 3], rows: &[[u64; 5]], attributes: &[u8]) -> usize {
+    walled::push_entries(out, SUBTYPE, builder, rows, attributes)
 }
 
 fn add_by_ours(out: &mut [u8], entries: &[NewEntry]) -> u64 {

@@ -2,7 +2,7 @@
 //! where the random numbers start. Ends with status 1 where a disagreement has no name. `--rows` shows the smallest
 //! input for each known difference instead.
 
-use mrt_oracle::campaigns::{bounds, edges, headers, peers, real, records, ribs, rows, streams, tokens};
+use mrt_oracle::campaigns::{bounds, edges, headers, peers, pushes, real, records, ribs, rows, streams, tokens};
 use mrt_oracle::compare::Differ;
 use mrt_oracle::question::Question;
 use mrt_oracle::random::Random;
@@ -56,6 +56,8 @@ fn run_campaigns(differ: &mut Differ, settings: &Settings) {
     timed("headers", || headers::run(&mut put, &mut random));
     timed("peers", || peers::run(&mut put, &mut random));
     timed("ribs", || ribs::run(&mut put, &mut random));
+    // With numbers of its own: the other questions of a seed, of which the lists are made, stay as they are.
+    timed("pushes", || pushes::run(&mut put, &mut Random::new(settings.seed)));
     timed("records", || records::run(&mut put));
     timed("tokens", || tokens::run(&mut put, &mut random));
     timed("edges", || edges::run(&mut put));

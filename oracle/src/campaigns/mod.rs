@@ -7,6 +7,7 @@ pub mod bounds;
 pub mod edges;
 pub mod headers;
 pub mod peers;
+pub mod pushes;
 pub mod real;
 pub mod records;
 pub mod ribs;

@@ -8,7 +8,8 @@ mod walks;
 mod words;
 
 use crate::answers::{
-    Address, Answer, Candidate, Event, Found, Frame, Header, NewEntry, Peer, PeerTable, RibEntry, RibTable, Tried, Walk,
+    Address, Answer, Builder, Candidate, Event, Found, Frame, Header, NewEntry, NewRows, Peer, PeerTable, RibEntry,
+    RibTable, Rowed, Tried, Walk,
 };
 use crate::subject::{NewHead, NewTable, Subject};
 
@@ -71,6 +72,16 @@ impl Subject for Oracle {
 
     fn rib_add(&self, buffer: &mut [u8], length: usize, subtype: u16, entry: &NewEntry) -> Option<Answer<usize>> {
         ribs::add(buffer, length, subtype, entry)
+    }
+
+    fn rib_push_rows(
+        &self,
+        buffer: &mut [u8],
+        subtype: u16,
+        builder: Builder,
+        rows: &NewRows,
+    ) -> Option<Answer<Rowed>> {
+        ribs::push_rows(buffer, subtype, builder, rows)
     }
 
     fn candidate(&self, stream: &[u8], at: usize) -> Option<Answer<Candidate>> {

@@ -2,7 +2,7 @@
 //! from the crate's originated time. Attributes are octets to the crate's stand-in, which accepts all of them.
 
 use super::words;
-use crate::answers::{Answer, NewEntry, RibEntry, RibTable};
+use crate::answers::{Answer, Builder, NewEntry, NewRows, RibEntry, RibTable, Rowed};
 use crate::reading;
 use crate::subject::NewHead;
 use bgpkit_part::models::{Attributes, NetworkPrefix, RibAfiEntries, TableDumpV2Type};
@@ -118,11 +118,49 @@ pub fn add(buffer: &mut [u8], length: usize, subtype: u16, entry: &NewEntry) -> 
     if rib.encode().ok()?[..] != *body {
         return None;
     }
-    rib.rib_entries.push(models::RibEntry {
+    rib.rib_entries.push(with_copy(subtype, entry));
+    put(buffer, &rib)
+}
+
+fn with_copy(subtype: u16, entry: &NewEntry) -> models::RibEntry {
+    models::RibEntry {
         peer_index: entry.peer_index,
         originated_time: entry.originated,
         path_id: (has_path(subtype) || entry.path != 0).then_some(entry.path),
         attributes: Attributes(Bytes::copy_from_slice(entry.attributes)),
-    });
-    put(buffer, &rib)
+    }
+}
+
+/// So with the entries of all rows, which the crate writes at once. It is asked where the builder is that of a whole body and
+/// every row goes in; the builder is the caller's.
+pub fn push_rows(buffer: &mut [u8], subtype: u16, builder: Builder, rows: &NewRows) -> Option<Answer<Rowed>> {
+    let body = buffer.get(..builder.length)?;
+    let mut rib = parse(subtype, body).ok()?;
+    let count_at = 5 + usize::from(rib.prefix.prefix.prefix_len).div_ceil(8);
+    let stands = (builder.count_at, builder.count) == (count_at, rib.rib_entries.len() as u64);
+    if !stands || rows.values.len() % 5 != 0 || rib.encode().ok()?[..] != *body {
+        return None;
+    }
+    for row in rows.values.chunks_exact(5) {
+        rib.rib_entries.push(with_copy(subtype, &fit(subtype, row, rows.attributes)?));
+    }
+    let count = u16::try_from(rib.rib_entries.len()).ok()?.into();
+    let Answer { refusal, value: length } = put(buffer, &rib)?;
+    let rowed = Rowed { rows: rows.values.len() / 5, builder: Builder { length, count_at, count } };
+    Some(if refusal == 0 { Ok(rowed) } else { Err(refusal) }.into())
+}
+
+/// The entry of a row, where each value fits its field.
+fn fit<'a>(subtype: u16, row: &[u64], buffer: &'a [u8]) -> Option<NewEntry<'a>> {
+    let &[peer, originated, path, start, end] = row else {
+        return None;
+    };
+    let attributes = buffer.get(start as usize..end as usize).filter(|attributes| attributes.len() <= 65_535)?;
+    let entry = NewEntry {
+        peer_index: u16::try_from(peer).ok()?,
+        originated: u32::try_from(originated).ok()?,
+        path: u32::try_from(path).ok()?,
+        attributes,
+    };
+    (has_path(subtype) || entry.path == 0).then_some(entry)
 }

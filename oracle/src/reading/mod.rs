@@ -10,5 +10,5 @@ mod walk;
 pub use check::body_check;
 pub use header::{frame, read_header, write_header};
 pub use peers::{add_peer, find_peer, read_peer, read_peers, write_peers};
-pub use rib::{add_entry, begin_rib, next_entry, push_entry, read_entry, read_rib};
+pub use rib::{add_entry, begin_rib, next_entry, push_entry, push_rows, read_entry, read_rib};
 pub use walk::{aligned, candidate, judge, scan, step};

@@ -1,7 +1,7 @@
 //! RIB bodies of subtypes 2 to 5 and 8 to 11 (RFC 6396, 4.3.2 and 4.3.4; RFC 8050, 4.1; 01, RIB bodies).
 
 use super::octets::{be16, be32, Pen};
-use crate::answers::{Answer, Builder, NewEntry, RibEntry, RibStep, RibTable};
+use crate::answers::{Answer, Builder, NewEntry, NewRows, RibEntry, RibStep, RibTable, Rowed};
 
 /// What a subtype decides: the most prefix bits, and whether entries have a path number.
 #[derive(Clone, Copy)]
@@ -215,6 +215,13 @@ pub fn push_entry(buffer: &mut [u8], subtype: u16, builder: Builder, entry: &New
 }
 
 fn pushed(buffer: &mut [u8], subtype: u16, builder: Builder, entry: &NewEntry) -> Result<Builder, u8> {
+    let (form, head) = standing(buffer, subtype, builder)?;
+    let length = put_after(buffer, builder.length, form, &head, entry)?;
+    Ok(Builder { length, count: builder.count + 1, ..builder })
+}
+
+/// The head of the body at whose end a builder stands: 8, 6, 7.
+fn standing(buffer: &[u8], subtype: u16, builder: Builder) -> Result<(Form, Head), u8> {
     let Builder { length, count_at, count } = builder;
     let body = buffer.get(..length).ok_or(8)?;
     if count > 65_535 {
@@ -225,8 +232,38 @@ fn pushed(buffer: &mut [u8], subtype: u16, builder: Builder, entry: &NewEntry) -
     if (count_at, count) != (head.entries - 2, head.declared.into()) {
         return Err(7);
     }
-    let length = put_after(buffer, length, form, &head, entry)?;
-    Ok(Builder { length, count_at, count: count + 1 })
+    Ok((form, head))
+}
+
+/// Adds the entries of rows where a builder stands, each as `push_entry` does, up to the first that it refuses or cannot be
+/// asked about: 8 for values that are no whole number of rows, and 8, 6 and 7 for no builder of what stands there.
+pub fn push_rows(buffer: &mut [u8], subtype: u16, builder: Builder, rows: &NewRows) -> Answer<Rowed> {
+    let checked = match rows.values.len() % 5 {
+        0 => standing(buffer, subtype, builder).map(|_| Rowed { rows: 0, builder }),
+        _ => Err(8),
+    };
+    let pushed = checked.map(|mut rowed| {
+        for row in rows.values.chunks_exact(5) {
+            let entry = entry_of(row, rows.attributes);
+            let Some(Ok(builder)) = entry.map(|entry| pushed(buffer, subtype, rowed.builder, &entry)) else {
+                break;
+            };
+            rowed = Rowed { rows: rowed.rows + 1, builder };
+        }
+        rowed
+    });
+    pushed.into()
+}
+
+/// The entry of a row's five values, where each has a number of its size and the attributes lie in the buffer.
+fn entry_of<'a>(row: &[u64], buffer: &'a [u8]) -> Option<NewEntry<'a>> {
+    let place = |i: usize| usize::try_from(row[i]).ok();
+    Some(NewEntry {
+        peer_index: row[0].try_into().ok()?,
+        originated: row[1].try_into().ok()?,
+        path: row[2].try_into().ok()?,
+        attributes: buffer.get(place(3)?..place(4)?)?,
+    })
 }
 
 /// The entry after the first `length` octets, and the count of their head raised: 10, then 9.

@@ -176,6 +176,135 @@ fn what_is_built_is_read_back() {
     }
 }
 
+/// Entries whose attributes are parts of the pool, of other octets or of none, some of which no body takes.
+fn mixed<'a>(random: &mut Random, pool: &'a [u8], other: &'a [u8], paths: bool) -> Vec<Entry<'a>> {
+    let count = random.below(60);
+    let mut entry = || {
+        let octets = if random.below(20) == 0 { other } else { pool };
+        let start = random.below(octets.len());
+        let most = if random.below(40) == 0 { 70_000 } else { 40 };
+        let octets = &octets[start..];
+        Entry {
+            peer: random.next() as u16,
+            originated: random.next() as u32,
+            path: if paths || random.below(60) == 0 { random.next() as u32 } else { 0 },
+            attributes: &octets[..random.below(most).min(octets.len())],
+        }
+    };
+    (0..count).map(|_| entry()).collect()
+}
+
+#[test]
+fn entries_written_together_are_those_pushed_one_by_one() {
+    let mut random = Random(3);
+    let (pool, other) = (random.octets(80_000), random.octets(80_000));
+    let mut met = [0; 3];
+    for turn in 0..3_000 {
+        let subtype = SUBTYPES[turn % 8];
+        let entries = mixed(&mut random, &pool, &other, subtype > 7);
+        let room = 7 + random.below(2_000) + random.below(2) * 200_000;
+        let (mut together, mut apart) = (vec![0x5a; room], vec![0x5a; room]);
+        let mut all = RibBuilder::begin(&mut together, subtype, 1, &prefix(0)).unwrap();
+        let mut one = RibBuilder::begin(&mut apart, subtype, 1, &prefix(0)).unwrap();
+        let answer = all.extend_from(&pool, entries.iter().copied());
+        assert_eq!(answer, entries.iter().try_for_each(|entry| one.push(entry)));
+        assert_eq!((all.count(), all.body()), (one.count(), one.body()));
+        assert_eq!(together, apart);
+        met[match answer {
+            Ok(()) => 0,
+            Err(Refusal::TooLarge) => 1,
+            Err(_) => 2,
+        }] += 1;
+    }
+    assert!(met.iter().all(|times| *times > 100), "{met:?}");
+}
+
+/// How many entries before the refused one does not matter to what is said of it.
+#[test]
+fn the_first_entry_that_does_not_go_in_is_told_of() {
+    let pool = vec![7; 65_536];
+    let good = Entry { peer: 1, originated: 2, path: 0, attributes: &pool[3..5] };
+    let (large, odd) = (Entry { attributes: &pool, ..good }, Entry { path: 1, ..good });
+    let long = Entry { attributes: &pool[1..], ..good };
+    for before in 0..40 {
+        for (refused, refusal) in [(large, Refusal::TooLarge), (odd, Refusal::TooLarge), (long, Refusal::NoRoom)] {
+            let mut entries = vec![good; before];
+            entries.extend([refused, long, odd, good]);
+            let mut out = vec![0x5a; 7 + 60 * 10];
+            let mut builder = RibBuilder::begin(&mut out, 2, 1, &prefix(0)).unwrap();
+            assert_eq!(builder.extend_from(&pool, entries), Err(refusal));
+            assert_eq!((usize::from(builder.count()), builder.body().len()), (before, 7 + before * 10));
+            assert!(out[7 + before * 10..].iter().all(|octet| *octet == 0x5a));
+        }
+    }
+}
+
+#[test]
+fn a_buffer_decides_nothing_but_the_time() {
+    let pool: Vec<u8> = (0..100).collect();
+    let entry = |start: usize, end: usize| Entry { peer: 1, originated: 2, path: 3, attributes: &pool[start..end] };
+    let entries: Vec<_> = (0..50).map(|i| entry(i, 2 * i)).chain([entry(100, 100), Entry::default()]).collect();
+    let built = |buffer: &[u8]| {
+        let mut out = [0; 4_096];
+        let mut builder = RibBuilder::begin(&mut out, 8, 1, &prefix(9)).unwrap();
+        builder.extend_from(buffer, entries.iter().copied()).unwrap();
+        builder.finish().to_vec()
+    };
+    let body = built(&[]);
+    assert_eq!(Entries::read(&body, 8).unwrap().collect::<Vec<_>>(), entries);
+    for (start, end) in [(0, 100), (0, 99), (1, 100), (30, 60), (60, 60), (0, 0), (100, 100)] {
+        assert_eq!(built(&pool[start..end]), body, "{start} to {end}");
+    }
+    let same_octets = pool.clone();
+    assert_eq!(built(&same_octets), body);
+}
+
+#[test]
+fn a_body_that_was_read_is_written_as_the_same_octets() {
+    let mut random = Random(4);
+    let pool = random.octets(300);
+    for turn in 0..500 {
+        let subtype = SUBTYPES[turn % 8];
+        let mut entries: Vec<_> = (0..9).flat_map(|_| entries(&mut random, &pool, subtype > 7)).collect();
+        entries.truncate(turn % 40);
+        let mut out = vec![0; 20_000];
+        let mut builder = RibBuilder::begin(&mut out, subtype, 1, &prefix(32)).unwrap();
+        entries.iter().for_each(|entry| builder.push(entry).unwrap());
+        let body = builder.finish().to_vec();
+        let rib = Rib::read(&body, subtype).unwrap();
+        let mut again = vec![0; body.len()];
+        let mut builder = RibBuilder::begin(&mut again, subtype, rib.sequence, &rib.prefix).unwrap();
+        builder.extend_from(&body, rib.entries()).unwrap();
+        assert_eq!(builder.finish(), body);
+    }
+}
+
+#[test]
+fn as_many_entries_as_a_count_can_hold_and_no_more() {
+    let mut out = vec![0; 7 + 8 * 65_540];
+    let mut builder = RibBuilder::begin(&mut out, 2, 1, &prefix(0)).unwrap();
+    assert_eq!(builder.extend_from(&[], []), Ok(()));
+    assert_eq!(builder.extend_from(&[], (0..65_530).map(|_| Entry::default())), Ok(()));
+    assert_eq!(builder.extend_from(&[], vec![Entry::default(); 9]), Err(Refusal::TooLarge));
+    assert_eq!((builder.count(), builder.body().len()), (65_535, 7 + 8 * 65_535));
+    assert_eq!(builder.extend_from(&[], []), Ok(()));
+}
+
+/// After its first `None` an iterator may go on; it is not asked again.
+#[test]
+fn an_iterator_is_not_asked_after_its_end() {
+    for entries in [0, 1, 15, 16, 17, 32] {
+        let (mut asked, mut out) = (0, [0; 512]);
+        let odd = std::iter::from_fn(|| {
+            asked += 1;
+            (asked != entries + 1).then(Entry::default)
+        });
+        let mut builder = RibBuilder::begin(&mut out, 2, 1, &prefix(0)).unwrap();
+        assert_eq!(builder.extend_from(&[], odd), Ok(()));
+        assert_eq!((usize::from(builder.count()), asked), (entries, entries + 1));
+    }
+}
+
 #[test]
 fn octets_after_the_declared_entries_are_no_entry() {
     let body = body(1, &[0; 16]);

@@ -1,5 +1,5 @@
 //! Both sides of each bound, and every pair of refusals that can hold at once, in small numbers: all of these questions
-//! stand in the lists that the proved program replays.
+//! that have a form there (`asked.rs`) stand in the lists that the proved program replays.
 
 mod headers;
 mod peers;

@@ -2,7 +2,7 @@
 //! refusals of the writers in their order.
 
 use super::super::Put;
-use crate::answers::{Builder, NewEntry};
+use crate::answers::{Builder, NewEntry, NewRows};
 use crate::make;
 use crate::question::Question;
 use crate::subject::NewHead;
@@ -25,7 +25,10 @@ pub fn run(put: Put) {
         begins(put, subtype);
         adds(put, subtype);
         pushes(put, subtype);
+        row_lengths(put, subtype);
+        rows_that_stop(put, subtype);
     }
+    rows_of_a_full_body(put);
     broken(put);
     full(put);
     long_attributes(put);
@@ -158,6 +161,78 @@ fn pushes(put: Put, subtype: u16) {
     let mut full = [make::rib_head(5, 0, 0, 65_535), vec![0xaa; 40]].concat();
     full[5..7].copy_from_slice(&[255, 255]);
     push(put, &full, subtype, Builder { length: 7, count_at: 5, count: 65_535 }, 0, &[]);
+}
+
+/// Two rows that go in where there is room and the subtype has no path number.
+const TWO_ROWS: [u64; 10] = [0xfffe, 0x0102_0304, 0, 0, 2, 1, 2, 0, 2, 3];
+
+fn push_rows(put: Put, buffer: &[u8], subtype: u16, builder: Builder, values: &[u64]) {
+    put(&Question::RibPushRows { buffer, subtype, builder, rows: NewRows { values, attributes: &[7, 8, 9] } });
+}
+
+/// Values that are no whole number of rows, beside builders that are none: 8 comes before a subtype that is not carried, and
+/// that before the builder.
+fn row_lengths(put: Put, subtype: u16) {
+    let body = [make::rib_head(5, 9, 0x80, 1), make::rib_entry(subtype, 1, &[1, 2, 3])].concat();
+    let (n, size) = (body.len(), make::rib_entry(subtype, 1, &[1, 2]).len() + make::rib_entry(subtype, 1, &[1]).len());
+    for room in [0, size - 1, size, size + 1] {
+        let buffer = [&body[..], &vec![0xaa; room]].concat();
+        for (length, count_at, count) in [
+            (n, 7, 1),
+            (n, 6, 1),
+            (n, 7, 0),
+            (n, 7, 65_536),
+            (n + room + 1, 7, 1),
+            (8, 7, 1),
+            (9, 7, 1),
+            (n, usize::MAX, 1),
+        ] {
+            for values in [0, 1, 4, 5, 6, 9, 10] {
+                push_rows(put, &buffer, subtype, Builder { length, count_at, count }, &TWO_ROWS[..values]);
+            }
+        }
+    }
+    push_rows(put, &[], subtype, Builder::default(), &[]);
+    push_rows(put, &[], subtype, Builder::default(), &[0]);
+}
+
+/// A row with one value on each side of its bound, between rows that go in.
+fn rows_that_stop(put: Put, subtype: u16) {
+    let buffer = [make::rib_head(5, 9, 0x80, 1), vec![0xaa; 90]].concat();
+    let builder = Builder { length: 9, count_at: 7, count: 1 };
+    let bounds: [(usize, &[u64]); 5] = [
+        (0, &[65_535, 65_536]),
+        (1, &[4_294_967_295, 4_294_967_296]),
+        (2, &[1, 4_294_967_295, 4_294_967_296]),
+        (3, &[0, 1, 2, 3, 4]),
+        (4, &[0, 2, 3, 4]),
+    ];
+    for (place, values) in bounds {
+        for &value in values.iter().chain(&[u64::MAX]) {
+            let mut rows = [&TWO_ROWS[..], &[3, 4, 0, 1, 2], &TWO_ROWS[..5]].concat();
+            rows[10 + place] = value;
+            push_rows(put, &buffer, subtype, builder, &rows);
+            push_rows(put, &buffer, subtype, builder, &rows[10..15]);
+        }
+    }
+}
+
+/// The 65,535th entry is the last that fits, and attributes of 65,535 octets do.
+fn rows_of_a_full_body(put: Put) {
+    for (subtype, count) in [(2, 65_533), (2, 65_534), (2, 65_535), (11, 65_533), (11, 65_535)] {
+        let buffer = [make::rib_head(5, 0, 0, count), vec![0xaa; 90]].concat();
+        let builder = Builder { length: 7, count_at: 5, count: count.into() };
+        push_rows(put, &buffer, subtype, builder, &[&TWO_ROWS[..], &TWO_ROWS].concat());
+    }
+    let (attributes, builder) = (vec![7; 65_537], Builder { length: 7, count_at: 5, count: 0 });
+    for length in [65_534, 65_535, 65_536] {
+        let values = [1, 2, 0, 1, 1 + length, 1, 2, 0, 0, 0];
+        for room in [0, 8 + length as usize - 1, 8 + length as usize, 16 + length as usize] {
+            let buffer = [make::rib_head(5, 0, 0, 0), vec![0xaa; room]].concat();
+            let rows = NewRows { values: &values, attributes: &attributes };
+            put(&Question::RibPushRows { buffer: &buffer, subtype: 2, builder, rows });
+        }
+    }
 }
 
 /// A body that is not whole comes before a value that does not fit, and before the room.
