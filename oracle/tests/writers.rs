@@ -50,25 +50,25 @@ fn ribs_read_back() {
     assert_eq!(buffer, before);
 }
 
-/// Two rows go in, and the third has a peer index that no entry has.
+/// Two rows go in, and the third has a peer index that no entry has. There is room for all four.
 #[test]
 fn rows_go_in_up_to_the_first_that_is_refused() {
-    let mut buffer = [0xaa; 40];
+    let mut buffer = [0xaa; 60];
     let length = reading::begin_rib(&mut buffer, 8, 3, 0, &[0; 16]).value;
     let begun = Builder { length, count_at: 5, count: 0 };
-    let values = [1, 2, 3, 0, 2, 65_535, 4_294_967_295, 4, 3, 3, 65_536, 2, 3, 0, 0, 1, 2, 3, 0, 0];
+    let values = [1, 2, 3, 1, 3, 65_535, 4_294_967_295, 4, 3, 3, 65_536, 2, 3, 0, 0, 1, 2, 3, 0, 0];
     let attributes = [7, 8, 9];
     let rows = |values| NewRows { values, attributes: &attributes };
     let Answer { refusal, value } = reading::push_rows(&mut buffer, 8, begun, &rows(&values));
     assert_eq!((refusal, value), (0, Rowed { rows: 2, builder: Builder { length: 33, count_at: 5, count: 2 } }));
-    let first = [0, 1, 0, 0, 0, 2, 0, 0, 0, 3, 0, 2, 7, 8];
+    let first = [0, 1, 0, 0, 0, 2, 0, 0, 0, 3, 0, 2, 8, 9];
     let second = [255, 255, 255, 255, 255, 255, 0, 0, 0, 4, 0, 0];
     assert_eq!(buffer[..33], [&[0, 0, 0, 3, 0, 0, 2][..], &first, &second].concat());
-    assert_eq!(buffer[33..], [0xaa; 7]);
+    assert_eq!(buffer[33..], [0xaa; 27]);
     let before = buffer;
     for (subtype, builder, values, refusal) in [
         (8, value.builder, &values[..19], 8),
-        (6, Builder { length: 41, ..value.builder }, &values[..], 8),
+        (6, Builder { length: 61, ..value.builder }, &values[..], 8),
         (6, value.builder, &values[..], 6),
         (8, begun, &values[..], 7),
     ] {
@@ -76,7 +76,7 @@ fn rows_go_in_up_to_the_first_that_is_refused() {
         assert_eq!(answer, Answer { refusal, value: Rowed::default() });
         assert_eq!(buffer, before);
     }
-    let none = reading::push_rows(&mut buffer, 8, value.builder, &rows(&values[..5]));
+    let none = reading::push_rows(&mut buffer[..46], 8, value.builder, &rows(&values[..5]));
     assert_eq!((none.refusal, none.value, buffer), (0, Rowed { rows: 0, builder: value.builder }, before));
 }
 
