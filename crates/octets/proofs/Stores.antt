@@ -8,8 +8,8 @@ use borrow.Author.Tests.{leb-true, leb-false}
 use native.Mathlib.Nat.{add-zero, zero-add, add-suc, suc-add}
 use native.Mathlib.Numerals.{add-one}
 use native.Mathlib.Omega.{arith}
-use lib.ListN.{length, getD, take, drop, set, take-append-drop, length-append}
-use lib.Seq.{sets, sets-eq, length-sets, set-out, take-suc, length-take-le, take-all, take-at, drop-at}
+use lib.ListN.{length, getD, take, drop, set, take-append-drop, length-append, length-drop}
+use lib.Seq.{sets, sets-eq, length-sets, set-out, take-suc, take-add, take-take, take-append-le, length-take-le, take-all, take-at, drop-at}
 use Rattle.octets.specs.Octets.{patch}
 
 pub length-patch : (s : List ℕ) (at : ℕ) (bs : List ℕ) → length (patch s at bs) ≡ length s
@@ -84,6 +84,45 @@ patch-part (x ∷ s) (suc e) at bs h = rw suc-add (ap (λ (t : List ℕ). x ∷ 
     under : (bs s : List ℕ) (j : ℕ) → x ∷ sets s j bs ≡ sets (x ∷ s) (suc j) bs
     under [] s j = refl
     under (b ∷ bs) s j = under bs (set s j b) (suc j)
+
+-- octets that are stored where they stand
+pub patch-own : (s : List ℕ) (at n : ℕ) → at + n ≤ length s → patch s at (take n (drop at s)) ≡ s
+patch-own s at n h =
+    let l : length (take n (drop at s)) ≡ n = length-take-le n (drop at s) (let d = length-drop at s in omega arith) in
+    patch-within s at (take n (drop at s)) (omega arith)
+    ∙ ap (λ (k : ℕ). take at s ++ take n (drop at s) ++ drop (at + k) s) l
+    ∙ ap (λ (x : List ℕ). x ++ drop (at + n) s) (sym (take-add at n s))
+    ∙ take-append-drop (at + n) s
+
+-- stores in places that lie apart, in either order
+pub patch-apart : (s : List ℕ) (at to : ℕ) (xs ys : List ℕ) → at + length xs ≤ to → to ≤ length s
+    → patch (patch s at xs) to ys ≡ patch (patch s to ys) at xs
+patch-apart s at to xs ys h b =
+    let e : ℕ = at + length xs in
+    let j : ℕ = to - e in
+    let t : e + j ≡ to = omega arith in
+    let z : List ℕ = patch s at xs in
+    let q : List ℕ = patch (drop e s) j ys in
+    let f : List ℕ = take at s ++ xs in
+    let n : length (take at s) ≡ at = length-take-le at s (omega arith) in
+    let l : length f ≡ e = length-append (take at s) xs ∙ ap (λ (k : ℕ). k + length xs) n in
+    let split : z ≡ f ++ drop e s = patch-within s at xs (omega arith) in
+    let m : length (take e s) ≡ e = length-take-le e s (omega arith) in
+    let left : patch z to ys ≡ f ++ q =
+    ap (λ (k : ℕ). patch z k ys) (sym t) ∙ sym (patch-part z e j ys (let k = length-patch s at xs in omega arith))
+    ∙ rw (split, take-at f (drop e s) e l, drop-at f (drop e s) e l) in
+    let w : patch s to ys ≡ take e s ++ q = ap (λ (k : ℕ). patch s k ys) (sym t) ∙ sym (patch-part s e j ys (omega arith)) in
+    let right : patch (take e s ++ q) at xs ≡ f ++ q =
+    patch-within (take e s ++ q) at xs (let k = length-append (take e s) q in omega arith)
+    ∙ rw (take-append-le at (take e s) q (omega arith), take-take at e s (omega arith), drop-at (take e s) q e m) in
+    left ∙ sym (ap (λ (x : List ℕ). patch x at xs) w ∙ right)
+
+-- what is stored again afterwards need not be stored before
+pub patch-late : (s : List ℕ) (at to : ℕ) (xs ys zs : List ℕ) → length xs ≡ length zs → at + length xs ≤ to → to ≤ length s
+    → patch (patch (patch s at xs) to ys) at zs ≡ patch (patch s to ys) at zs
+patch-late s at to xs ys zs e h b =
+    ap (λ (x : List ℕ). patch x at zs) (patch-apart s at to xs ys h b)
+    ∙ patch-over (patch s to ys) at xs zs (omega arith) (let k = length-patch s to ys in omega arith)
 
 -- one turn of a copy: the first i octets of src are stored, and then the next
 pub copy-turn : (s src : List ℕ) (at i : ℕ) {t : List ℕ} → i < length src → t ≡ patch s at (take i src)

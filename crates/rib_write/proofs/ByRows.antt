@@ -13,13 +13,14 @@ use Rattle.answer.specs.declared.Refusal.{Refusal}
 use Rattle.answer.specs.declared.Outcome.{Outcome}
 use Rattle.answer.specs.declared.Outcome.the-variants as outcome
 use Rattle.answer.proofs.Refusals.{number-refusal}
-use Rattle.octets.specs.Octets.{bytesOf, patch, part}
-use Rattle.octets.proofs.Stores.{length-patch}
+use Rattle.octets.specs.Octets.{bytesOf, patch, part, Octets}
+use Rattle.octets.proofs.Numbers.{length-bytes}
+use Rattle.octets.proofs.Stores.{length-patch, patch-late}
 use Rattle.octets.proofs.Parts.{length-part, patch-rest}
 use Rattle.rib_write.specs.Layout.{entryOctets}
 use Rattle.rib_write.specs.Rows.{entryIn, attributesIn, askable, Rowing, noRow, oneMore, builderAfter, pushRow, pushRows}
 use Rattle.rib_write.specs.Rows.{Rowed, rowed, unrowed, rowsValues, pushEntries}
-use Rattle.rib_write.specs.Steps.{sizeIn, taken, putRow}
+use Rattle.rib_write.specs.Steps.{sizeIn, taken, putRow, closed}
 use Rattle.rib_head.specs.Layout.{pathSize}
 use Rattle.rib_write.specs.Add.{standing, Pushing, unpushed, unfit, added, pushAfter, pushEntry}
 use Rattle.rib_write.specs.declared.NewEntry.{NewEntry}
@@ -28,7 +29,7 @@ use Rattle.rib_write.specs.declared.RowsAnswer.{RowsAnswer}
 use Rattle.rib_write.specs.declared.RowsAnswer.the-variants.{Pushed}
 use Rattle.rib_write.proofs.Sizes.{length-entry}
 use Rattle.rib_write.proofs.Answers.{fit-count}
-use Rattle.rib_write.proofs.Standing.{both, Stands, stands-on}
+use Rattle.rib_write.proofs.Standing.{both, Stands, count-within, count-stored, stands-on}
 
 -- what holds of a row of which a push can be asked for, with a buffer of n octets
 pub record Asked (rs : List ℕ) (at n : ℕ) : Type 0 where
@@ -283,6 +284,11 @@ rows-stop (suc k) s t b rs at buffer h z =
         more (omega arith) (rw m at z)
     by-test false e more h z = eqb-false (p .number) 0 e (rw (add-zero at) at z)
 
+-- the count is stored after the last one
+pub rows-closed : (s : List ℕ) (b : Builder) (len n : ℕ) {v : List ℕ} → v ≡ patch s (b .at) (bytesOf 2 (b .count + n))
+    → (v, Pushed (record { len = len; at = b .at; count = b .count + n }) n) ≡ closed s b len n
+rows-closed s b len n e = rw e
+
 -- so many rows before others
 abbrev moreRows : ℕ → Rowing → Rowing
 moreRows n r = record { rows = n + r .rows; builder = r .builder; output = r .output }
@@ -290,86 +296,106 @@ moreRows n r = record { rows = n + r .rows; builder = r .builder; output = r .ou
 more-one : (n : ℕ) (r : Rowing) → moreRows (n + 1) r ≡ moreRows n (oneMore r)
 more-one n r = let e : n + 1 + r .rows ≡ n + suc (r .rows) = omega arith in rw e
 
--- the loop over rows: what has come of the output, the builder's length and count, and the place of the next row
+-- the loop over rows: what has come of the output, whose count is stored after it, of the builder's length, and the place of the
+-- next row
 module _ (t : ℕ) (b : Builder) (rs buffer before : List ℕ) where
-  abbrev pub nowAt : ℕ → ℕ → Builder
-  nowAt len count = record { len = len; at = b .at; count = count }
+  -- the builder and the output after n rows
+  abbrev pub builderOf : ℕ → ℕ → Builder
+  builderOf len n = record { len = len; at = b .at; count = b .count + n }
 
-  pub record Going (out : List ℕ) (len count place : ℕ) : Type 0 where
+  abbrev pub outputOf : List ℕ → ℕ → List ℕ
+  outputOf out n = patch out (b .at) (bytesOf 2 (b .count + n))
+
+  pub record Going (out : List ℕ) (len place : ℕ) : Type 0 where
     pub rows : ℕ
     pub placed : place ≡ 5 * rows
-    pub counted : count ≡ b .count + rows
     pub within : place ≤ length rs
-    pub few : count < 65536
-    pub stands : Stands out t (nowAt len count)
+    pub few : b .count + rows < 65536
+    pub stands : Stands (outputOf out rows) t (builderOf len rows)
     pub same : length out ≡ length before
-    pub comes : moreRows rows (pushRows (length rs / 5 - rows) out t (nowAt len count) rs place buffer)
+    pub comes : moreRows rows (pushRows (length rs / 5 - rows) (outputOf out rows) t (builderOf len rows) rs place buffer)
         ≡ pushRows (length rs / 5) before t b rs 0 buffer
 
-  pub going-start : b .count < 65536 → Stands before t b → Going before (b .len) (b .count) 0
-  going-start f w =
+  pub going-start : b .count < 65536 → Octets before → Stands before t b → Going before (b .len) 0
+  going-start f o w =
       record {
         rows = 0;
         placed = refl;
-        counted = sym (add-zero (b .count));
         within = omega arith;
-        few = f;
-        stands = w;
+        few = omega arith;
+        stands = rw (add-zero (b .count), count-stored w o) w;
         same = refl;
-        comes = rw (sub-zero, zero-add);
+        comes = rw (sub-zero, add-zero (b .count), count-stored w o, zero-add);
       }
 
-  module _ {out : List ℕ} {len count place : ℕ} (g : Going out len count place) where
+  module _ {out : List ℕ} {len place : ℕ} (g : Going out len place) where
+    -- what is left of the rows does nothing
+    abbrev Ended : Type 0
+    Ended =
+        pushRows (length rs / 5 - g .rows) (outputOf out (g .rows)) t (builderOf len (g .rows)) rs place buffer
+        ≡ noRow (builderOf len (g .rows)) (outputOf out (g .rows))
+
+    abbrev pub Fits : Type 0
+    Fits = Fitting (g .stands) rs place buffer
+
+    abbrev new : List ℕ
+    new = rowOctets (g .stands) rs place buffer
+
+    length-output : length (outputOf out (g .rows)) ≡ length out
+    length-output = length-patch out (b .at) (bytesOf 2 (b .count + g .rows))
+
+    pub len-within : len ≤ length out
+    len-within = let h = g .stands .within in omega (arith, length-output)
+
     -- one row more goes in
-    module _ (whole : length rs % 5 ≡ 0) (more : place < length rs) (small : count < 65535) (x : Fitting (g .stands) rs place buffer) where
-      unfull : count ≡ 65535 → ⊥
-      unfull e = omega arith
-
-      abbrev new : List ℕ
-      new = rowOctets (g .stands) rs place buffer
-
-      pub going-on : {y z : List ℕ} {n : ℕ} → y ≡ patch out len new → z ≡ patch y (b .at) (bytesOf 2 (count + 1))
-          → n ≡ 8 + pathSize t + sizeIn rs place → Going z (len + n) (count + 1) (place + 5)
-      unfolding added
-      going-on {y} {z} {n} p q e =
-          let k = g .placed in
-          let c = g .counted in
-          let m : n ≡ length new = e ∙ sym (length-row buffer (x .asked) (pathSize t) (entryIn rs place)) in
-          let o : z ≡ added out len new (b .at) (count + 1) = q ∙ ap (λ (l : List ℕ). patch l (b .at) (bytesOf 2 (count + 1))) p in
-          let room = row-room (g .stands) rs place buffer unfull x in
-          let next = stands-on (g .stands) new (count + 1) room (omega arith) (len + length new) (omega arith) room in
-          let less : length rs / 5 - g .rows ≡ suc (length rs / 5 - (g .rows + 1)) = omega arith in
-          let one = rows-one _ _ _ _ _ _ (row-done (g .stands) rs place buffer unfull x) refl (length rs / 5 - (g .rows + 1)) in
-          record {
-            rows = g .rows + 1;
-            placed = omega arith;
-            counted = omega arith;
-            within = omega arith;
-            few = omega arith;
-            stands = rw (o, m) next;
-            same = ap length q ∙ length-patch _ _ _ ∙ ap length p ∙ length-patch _ _ _ ∙ g .same;
-            comes = more-one (g .rows) _ ∙ ap (moreRows (g .rows)) (sym (rw (less, o, m) one)) ∙ g .comes;
-          }
+    pub going-on : length rs % 5 ≡ 0 → place < length rs → b .count + g .rows < 65535 → Fits → {y : List ℕ} {n : ℕ}
+        → y ≡ patch out len new → n ≡ 8 + pathSize t + sizeIn rs place → Going y (len + n) (place + 5)
+    unfolding added
+    going-on whole more small x {y} {n} p e =
+        let k = g .placed in
+        let unfull : b .count + g .rows ≡ 65535 → ⊥ = λ z. omega arith in
+        let c : b .count + (g .rows + 1) ≡ b .count + g .rows + 1 = omega arith in
+        let m : n ≡ length new = e ∙ sym (length-row buffer (x .asked) (pathSize t) (entryIn rs place)) in
+        let room = row-room (g .stands) rs place buffer unfull x in
+        let o : outputOf y (g .rows + 1) ≡ added (outputOf out (g .rows)) len new (b .at) (b .count + g .rows + 1) =
+        rw (c, p) (sym (patch-late out (b .at) len (bytesOf 2 (b .count + g .rows)) new (bytesOf 2 (b .count + g .rows + 1))
+        (length-bytes 2 _ ∙ sym (length-bytes 2 _)) (rw (length-bytes 2 (b .count + g .rows)) (count-within (g .stands))) len-within)) in
+        let next = stands-on (g .stands) new (b .count + g .rows + 1) room (omega arith) (len + length new) (omega arith) room in
+        let less : length rs / 5 - g .rows ≡ suc (length rs / 5 - (g .rows + 1)) = omega arith in
+        let one = rows-one _ _ _ _ _ _ (row-done (g .stands) rs place buffer unfull x) refl (length rs / 5 - (g .rows + 1)) in
+        record {
+          rows = g .rows + 1;
+          placed = omega arith;
+          within = omega arith;
+          few = omega arith;
+          stands = rw (o, m, c) next;
+          same = ap length p ∙ length-patch _ _ _ ∙ g .same;
+          comes = more-one (g .rows) _ ∙ ap (moreRows (g .rows)) (sym (rw (less, o, m, c) one)) ∙ g .comes;
+        }
 
     -- no row more does
-    pub going-ends : {r : RowsAnswer} {v : List ℕ} → r ≡ Pushed (nowAt len count) (count - b .count) → v ≡ out
-        → pushRows (length rs / 5 - g .rows) out t (nowAt len count) rs place buffer ≡ noRow (nowAt len count) out
+    pub going-ends : {r : RowsAnswer} {u v : List ℕ} → (v, r) ≡ closed u b len (place / 5) → u ≡ out → Ended
         → rowsValues r v ≡ rowed (pushRows (length rs / 5) before t b rs 0 buffer)
-    going-ends q o e =
-        let c = g .counted in
-        let n : count - b .count ≡ g .rows + 0 = omega arith in
-        rw (q, o, n) (ap rowed (ap (moreRows (g .rows)) (sym e) ∙ g .comes))
+    going-ends {r} {u} {v} q o e =
+        let k = g .placed in
+        let n : place / 5 ≡ g .rows = omega arith in
+        let z : g .rows ≡ g .rows + 0 = omega arith in
+        let s = rw (o, n) at q in
+        ap (λ (x : List ℕ × RowsAnswer). rowsValues (x .1) (x .0)) s
+        ∙ ap (λ (m : ℕ). rowed (record { rows = m; builder = builderOf len (g .rows); output = outputOf out (g .rows) })) z
+        ∙ ap rowed (ap (moreRows (g .rows)) (sym e) ∙ g .comes)
+
+    pub ends-same : {r : RowsAnswer} {u v : List ℕ} {n : ℕ} → (v, r) ≡ closed u b len n → u ≡ out → length v ≡ length before
+    ends-same {u = u} {n = n} q o =
+        ap (λ (x : List ℕ × RowsAnswer). length (x .0)) q ∙ length-patch u (b .at) (bytesOf 2 (b .count + n)) ∙ ap length o ∙ g .same
 
     -- all are in, or the body has as many entries as it may
-    pub going-full : length rs % 5 ≡ 0 → min (length rs) (5 * (65535 - b .count)) ≤ place
-        → pushRows (length rs / 5 - g .rows) out t (nowAt len count) rs place buffer ≡ noRow (nowAt len count) out
+    pub going-full : length rs % 5 ≡ 0 → min (length rs) (5 * (65535 - b .count)) ≤ place → Ended
     going-full whole over = by-test (ltb place (length rs)) refl
       where
-        by-test : (u : Bool) → ltb place (length rs) ≡ u
-            → pushRows (length rs / 5 - g .rows) out t (nowAt len count) rs place buffer ≡ noRow (nowAt len count) out
+        by-test : (u : Bool) → ltb place (length rs) ≡ u → Ended
         by-test true e =
             let k = g .placed in
-            let c = g .counted in
             let l = ltb-true place (length rs) e in
             let f = g .few in
             rows-none _ _ _ _ _ _ (λ z. row-fits (g .stands) rs place buffer z .0 (omega arith)) _
@@ -377,12 +403,12 @@ module _ (t : ℕ) (b : Builder) (rs buffer before : List ℕ) where
 
     -- the part from the builder's end on, and what the row at the place has made of it
     module _ {p n : ℕ} {u : List ℕ} (e : (u, n) ≡ putRow (part out len (length out - len)) p rs place buffer) (q : p ≡ pathSize t) where
-      length-rest : length (part out len (length out - len)) ≡ length out - len
-      length-rest = let h = g .stands .within in length-part out len (length out - len) (omega arith)
+      length-rest : length (part out len (length out - len)) ≡ length (outputOf out (g .rows)) - len
+      length-rest = length-part out len (length out - len) (omega (arith, len-within)) ∙ rw length-output
 
       -- it is refused, and the output stays
       module _ (z : n ≡ 0) where
-        pub row-refused : pushRows (length rs / 5 - g .rows) out t (nowAt len count) rs place buffer ≡ noRow (nowAt len count) out
+        pub row-refused : Ended
         row-refused = rows-none _ _ _ _ _ _
             (λ y. put-none _ _ _ _ _ e z (rw (q, length-rest) (row-fits (g .stands) rs place buffer y .1))) _
 
@@ -394,18 +420,19 @@ module _ (t : ℕ) (b : Builder) (rs buffer before : List ℕ) where
 
       -- it goes in
       module _ (z : n ≡ 0 → ⊥) where
-        pub row-taken : Fitting (g .stands) rs place buffer
+        pub row-taken : Fits
         row-taken = rw (q, length-rest) at (put-holds _ _ _ _ _ e z)
 
         pub row-size : n ≡ 8 + pathSize t + sizeIn rs place
         row-size = put-size _ _ _ _ _ e z ∙ rw q
 
-        pub row-stored : take len out ++ (u ++ drop (length out - len) (drop len out))
-            ≡ patch out len (rowOctets (g .stands) rs place buffer)
+        pub row-fits-in : len + n ≤ length out
+        row-fits-in = let r = row-taken .room in omega (arith, row-size, len-within, length-output)
+
+        pub row-stored : take len out ++ (u ++ drop (length out - len) (drop len out)) ≡ patch out len new
         row-stored =
             let v = rw q at (put-octets _ _ _ _ _ e z) in
-            patch-rest out len 0 (rowOctets (g .stands) rs place buffer) (g .stands .within) v
-            ∙ ap (λ (k : ℕ). patch out k (rowOctets (g .stands) rs place buffer)) (add-zero len)
+            patch-rest out len 0 new len-within v ∙ ap (λ (k : ℕ). patch out k new) (add-zero len)
 
 -- the call, by its tests
 module _ (s : List ℕ) (t : ℕ) (b : Builder) (rs buffer : List ℕ) where

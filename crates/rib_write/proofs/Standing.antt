@@ -8,9 +8,9 @@ use lib.ListN.{length, take, drop, getD}
 use lib.Seq.{length-take-le, take-append-le, take-take, getD-take}
 use lib.Dec.{eqb}
 use borrow.Author.Tests.{le-leb, eq-eqb, eqb-true, eqb-false}
-use Rattle.octets.specs.Octets.{bytesOf, patch}
-use Rattle.octets.proofs.Numbers.{length-bytes, be-take, be-of-bytes}
-use Rattle.octets.proofs.Stores.{length-patch, patch-within}
+use Rattle.octets.specs.Octets.{beAt, bytesOf, patch, Octets}
+use Rattle.octets.proofs.Numbers.{length-bytes, be-take, be-of-bytes, bytes-of-be}
+use Rattle.octets.proofs.Stores.{length-patch, patch-within, patch-own}
 use Rattle.rib_head.specs.Layout.{mostBits, prefixSize}
 use Rattle.rib_head.specs.Head.{bitsOf, countAt, declared, entriesAt, readable, checkRib}
 use Rattle.rib_head.proofs.Heads.{met-within, met-carried, met-most}
@@ -57,7 +57,7 @@ module _ {s : List ℕ} {t : ℕ} {b : Builder} (w : Stands s t b) where
       by-tests false e y f z = absurd (eqb-false _ 0 e z)
 
   -- the count lies before the body's end
-  count-within : b .at + 2 ≤ b .len
+  pub count-within : b .at + 2 ≤ b .len
   unfolding countAt entriesAt body
   count-within =
       let l : length body ≡ b .len = length-take-le (b .len) s (w .within) in
@@ -65,6 +65,14 @@ module _ {s : List ℕ} {t : ℕ} {b : Builder} (w : Stands s t b) where
 
   count-fits : b .at + 2 ≤ length s
   count-fits = let h = w .within in omega (arith, count-within)
+
+  -- it is stored there already
+  pub count-stored : Octets s → patch s (b .at) (bytesOf 2 (b .count)) ≡ s
+  unfolding declared body
+  count-stored o =
+      let c : b .count ≡ beAt s (b .at) 2 =
+      headed .count ∙ ap (λ (k : ℕ). beAt body k 2) (sym (headed .at)) ∙ be-take s (b .len) (b .at) 2 count-within in
+      rw (c, bytes-of-be s (b .at) 2 o count-fits) (patch-own s (b .at) 2 count-fits)
 
   -- after an entry of octets bs, and a count of v
   module _ (bs : List ℕ) (v : ℕ) (fits : b .len + length bs ≤ length s) (small : v < 65536) where

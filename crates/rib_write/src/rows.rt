@@ -1,13 +1,12 @@
 // Entries by rows: the values of each as they are handed out, its attributes a part of one buffer.
 ghost use mathlib.Core.Path.{_≡_};
-ghost use Prim.Native.Nat.{_+_, _-_, _*_, _/_, _%_, _≤_, min};
+ghost use Prim.Native.Nat.{_+_, _*_, _/_, _%_, _<_, _≤_, min};
 ghost use mathlib.Core.Bool.{cond};
 ghost use lib.ListN.{length, take};
 ghost use lib.Dec.{eqb};
 ghost use Rattle.rib_write.specs.Add.{standing};
 ghost use Rattle.rib_write.specs.Rows.{rowsValues, rowed, pushRows, pushEntries};
-ghost use Rattle.rib_write.specs.Steps.{putRow};
-ghost use Rattle.rib_write.specs.declared.RowsAnswer.the-variants.{Pushed};
+ghost use Rattle.rib_write.specs.Steps.{putRow, closed};
 use crate::Builder;
 use crate::RowsAnswer;
 use crate::add::check_builder;
@@ -38,7 +37,7 @@ pub fn push_entries(
     }
 }
 
-// The rows of a builder that stands.
+// The rows of a builder that stands. The count is stored once, after all of them: a loop with less to keep is faster.
 fn push_rows(
     out: &mut [u8],
     subtype: u16,
@@ -54,33 +53,33 @@ fn push_rows(
     let most = most_path(l.path);
     let stop = most_places(rows.len(), 65535 - b.count);
     let mut len = b.len;
-    let mut count = b.count;
     let mut place: usize = 0;
     while place < stop {
         let size = put_row(&mut out[len..], l.path, most, rows, place, attributes);
         if size == 0 {
-            return pushed_to(b, len, count);
+            return close_rows(out, b, len, place);
         }
         len += size;
-        count += 1;
-        octets::put_be16(out, b.at, count);
         place += 5;
     }
-    pushed_to(b, len, count)
+    close_rows(out, b, len, place)
 }
 
-// The answer where a builder has come to so many octets and entries.
-fn pushed_to(b: Builder, len: usize, count: u16) -> RowsAnswer
-    requires { ⌜ b .count ≤ count ⌝ }
-    ensures { λ r. ⌜ r ≡ Pushed (record { len = len; at = b .at; count = count }) (count - b .count) ⌝ }
+// The count of a body that was given the rows before a place, and now has so many octets.
+fn close_rows(out: &mut [u8], b: Builder, len: usize, place: usize) -> RowsAnswer
+    requires { ⌜ b .count + place / 5 < 65536 ⌝ }
+    ensures { λ r. ⌜ (now (out .exit), r) ≡ closed (now (out .entry)) b len (place / 5) ⌝ }
 {
+    let rows = (place / 5) as u16;
+    let count = b.count + rows;
+    octets::put_be16(out, b.at, count);
     RowsAnswer::Pushed {
         builder: Builder {
             len,
             at: b.at,
             count,
         },
-        rows: count - b.count,
+        rows,
     }
 }
 
