@@ -12,7 +12,7 @@ use rib_write::NewEntry;
 pub extern "C" fn mrt_open_rib(body: &[u8], subtype: u16, out: &mut [u64]) -> u32
     ensures answer { λ r. ⌜ (now (out .exit), r) ≡ openedOut (now (out .entry)) (openOf (now (body .entry)) subtype) ⌝ }
 {
-    match rib_write::open_rib(body, subtype) {
+    match rib_add::open_rib(body, subtype) {
         BuilderAnswer::Refused(r) => mrt_lent::refusal(r),
         BuilderAnswer::Open(b) => {
             let v = [b.len as u64, b.at as u64, b.count as u64];

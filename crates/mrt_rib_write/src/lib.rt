@@ -45,5 +45,5 @@ pub extern "C" fn mrt_add_entry(
         originated,
         path,
     };
-    mrt_lent::wrote_of(rib_write::add_entry(out, len, subtype, e, attributes))
+    mrt_lent::wrote_of(rib_add::add_entry(out, len, subtype, e, attributes))
 }

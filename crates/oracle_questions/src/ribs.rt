@@ -129,7 +129,7 @@ fn new_entry(x: &[u8]) -> NewEntry {
 // a: the output before. b: the attributes. x: as for new_entry.
 pub(crate) fn add(a: &[u8], b: &[u8], x: &[u8], out: &mut [u8]) -> usize {
     let n = lend(out, a);
-    let w = rib_write::add_entry(
+    let w = rib_add::add_entry(
         &mut out[..n],
         number(x, 0),
         octets::be16(x, 14),
@@ -143,7 +143,7 @@ pub(crate) fn add(a: &[u8], b: &[u8], x: &[u8], out: &mut [u8]) -> usize {
 pub(crate) fn push(a: &[u8], b: &[u8], x: &[u8], out: &mut [u8]) -> usize {
     let subtype = octets::be16(x, 14);
     let e = new_entry(x);
-    let first = rib_write::open_rib(part(a, 0, number(x, 0)), subtype);
+    let first = rib_add::open_rib(part(a, 0, number(x, 0)), subtype);
     let n = lend(out, a);
     let second = push_one(&mut out[..n], subtype, first, e, b);
     let third = push_one(&mut out[..n], subtype, second, e, b);

@@ -112,12 +112,9 @@ module _ (s : List ℕ) (len t : ℕ) (h : len ≤ length s) where
         let r : b .count ≡ declared (take len s) = ap (λ (x : Opening). x .count) o in
         rw (p, q, r) refl
 
-    pub builder-within : b .len ≤ length s
-    builder-within = let p : b .len ≡ len = ap (λ (x : Builder). x .len) builder in omega arith
-
-    module _ (e : NewEntry) (l : List ℕ) (p : BuilderAnswer) (u : List ℕ) (does : pushed p u ≡ pushAfter s t b e l) where
+    module _ (e : NewEntry) (l : List ℕ) (p : BuilderAnswer) (u : List ℕ) (does : pushed p u ≡ pushEntry s t b e l) where
       add-pushed : lengthOnly (pushed p u) ≡ addEntry s len t e l
-      add-pushed = ap lengthOnly does ∙ rw builder (add-of-after whole e l)
+      add-pushed = ap lengthOnly does ∙ rw builder (add-of-push whole e l)
 
       pub add-refused : {r : Refusal} → p ≡ Refused r → refuse (numberOf r) u ≡ addEntry s len t e l
       add-refused q = rw q at add-pushed

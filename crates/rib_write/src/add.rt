@@ -1,68 +1,19 @@
-// One more entry, straight after the last one of a body.
+// One more entry where a builder stands.
 ghost use mathlib.Core.Path.{_≡_};
 ghost use Prim.Native.Nat.{_+_, _≤_};
 ghost use mathlib.Core.Bool.{cond};
 ghost use lib.ListN.{length};
 ghost use lib.Dec.{eqb};
 ghost use Rattle.answer.specs.Refusal.{outcomeNumber};
-ghost use Rattle.answer.specs.Writing.{wrote};
 ghost use Rattle.octets.specs.Octets.{bytesOf, patch};
 ghost use Rattle.rib_write.specs.Layout.{entryOctets};
-ghost use Rattle.rib_write.specs.Add.{openValues, openOf, unfit, pushed, standing, pushAfter, pushEntry, addEntry};
+ghost use Rattle.rib_write.specs.Add.{unfit, pushed, standing, pushAfter, pushEntry};
 ghost use Rattle.rib_write.specs.Rows.{entryIn};
 use crate::Builder;
 use crate::BuilderAnswer;
 use crate::NewEntry;
 use answer::Outcome;
 use answer::Refusal;
-use answer::Written;
-use rib_entries::CursorAnswer;
-
-// One more entry in a body that fills the first len octets of the lent output.
-pub fn add_entry(
-    out: &mut [u8],
-    len: usize,
-    subtype: u16,
-    e: NewEntry,
-    attributes: &[u8],
-) -> Written
-    ensures answer { λ r. ⌜ wrote r (now (out .exit)) ≡ addEntry (now (out .entry)) len subtype e (now (attributes .entry)) ⌝ }
-{
-    if out.len() < len {
-        return Written::Refused(Refusal::Beyond);
-    }
-    match open_rib(&out[..len], subtype) {
-        BuilderAnswer::Refused(r) => Written::Refused(r),
-        BuilderAnswer::Open(b) => match push_after(out, subtype, b, e, attributes) {
-            BuilderAnswer::Refused(r) => Written::Refused(r),
-            BuilderAnswer::Open(next) => Written::Octets(next.len),
-        },
-    }
-}
-
-// A builder at the end of a body that has every declared entry and nothing after them.
-pub fn open_rib(body: &[u8], subtype: u16) -> BuilderAnswer
-    ensures answer { λ r. ⌜ openValues r ≡ openOf (now (body .entry)) subtype ⌝ }
-{
-    match rib_entries::after_entries(body, subtype) {
-        CursorAnswer::Refused(r) => BuilderAnswer::Refused(r),
-        CursorAnswer::At(c) => {
-            if c.left != 0 {
-                return BuilderAnswer::Refused(Refusal::BodyNotMet);
-            }
-            let len = body.len();
-            if c.at != len {
-                return BuilderAnswer::Refused(Refusal::BodyNotMet);
-            }
-            let at = 5 + rib_head::prefix_size(octets::octet(body, 4));
-            BuilderAnswer::Open(Builder {
-                len,
-                at,
-                count: octets::be16(body, at),
-            })
-        }
-    }
-}
 
 // One more entry where a builder stands. The entries before it are not looked at.
 pub fn push_entry(

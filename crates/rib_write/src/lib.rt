@@ -1,9 +1,7 @@
-// RIB bodies in lent output, given one entry at a time (RFC 6396, 4.3.4; RFC 8050, 4).
+// RIB bodies in lent output, given entries where a builder stands, one or many by a call (RFC 6396, 4.3.4; RFC 8050, 4).
 mod add;
 mod rows;
 
-pub use add::add_entry;
-pub use add::open_rib;
 pub use add::push_entry;
 use answer::Refusal;
 pub use rows::push_entries;

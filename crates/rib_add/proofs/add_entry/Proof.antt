@@ -1,10 +1,10 @@
 use mathlib.Core.Path.{sym}
 use lib.Seq.{length-take-le}
 use borrow.Author.Needs.{needs}
-use Rattle.rib_write.proofs.Opened.{builder-within, add-refused, add-open}
+use Rattle.rib_write.proofs.Opened.{add-refused, add-open}
 use Rattle.rib_write.proofs.Answers.{add-beyond, add-unmet}
-use Rattle.rib_write.proofs.add.add_entry.Statement.{statement}
-use Rattle.rib_write.proofs.add.add_entry.Tie as tie
+use Rattle.rib_add.proofs.add_entry.Statement.{statement}
+use Rattle.rib_add.proofs.add_entry.Tie as tie
 
 returns : tie.Need-returns
 returns c = add-beyond _ _ _ _ _ (c .if1 .taken)
@@ -26,11 +26,8 @@ enum-known-r c = search needs
 enum-known-b : tie.Need-enum-known-b
 enum-known-b c = search needs
 
-push-after-requires : tie.Need-push-after-requires
-push-after-requires c κs =
-    let at-b = c .before .before in
-    let at-open-rib = at-b .before .before in
-    builder-within _ _ _ (at-open-rib .before .before .if1 .left) _ (at-open-rib .open-rib .ensures) (at-b .b .given .1)
+push-entry-requires : tie.Need-push-entry-requires
+push-entry-requires c κs = search needs
 
 enum-known-r-2 : tie.Need-enum-known-r-2
 enum-known-r-2 c = search needs
@@ -52,12 +49,12 @@ same-length-2 c = search needs
 
 returns-3 : tie.Need-returns-3
 returns-3 c =
-    let at-push-after = c .before .before .before .before .before in
-    let at-b = at-push-after .before .before .before in
+    let at-push-entry = c .before .before .before .before .before in
+    let at-b = at-push-entry .before .before .before in
     let at-open-rib = at-b .before .before in
     let at-if1 = at-open-rib .before .before in
     add-refused _ _ _
-    (at-if1 .if1 .left) _ (at-open-rib .open-rib .ensures) (at-b .b .given .1) _ _ _ _ (at-push-after .push-after .ensures)
+    (at-if1 .if1 .left) _ (at-open-rib .open-rib .ensures) (at-b .b .given .1) _ _ _ _ (at-push-entry .push-entry .ensures)
     (c .before .r2 .given .1)
 
 same-length-3 : tie.Need-same-length-3
@@ -65,12 +62,12 @@ same-length-3 c = search needs
 
 returns-4 : tie.Need-returns-4
 returns-4 c =
-    let at-push-after = c .before .before .before .before .before in
-    let at-b = at-push-after .before .before .before in
+    let at-push-entry = c .before .before .before .before .before in
+    let at-b = at-push-entry .before .before .before in
     let at-open-rib = at-b .before .before in
     let at-if1 = at-open-rib .before .before in
     add-open _ _ _
-    (at-if1 .if1 .left) _ (at-open-rib .open-rib .ensures) (at-b .b .given .1) _ _ _ _ (at-push-after .push-after .ensures)
+    (at-if1 .if1 .left) _ (at-open-rib .open-rib .ensures) (at-b .b .given .1) _ _ _ _ (at-push-entry .push-entry .ensures)
     (c .before .next .given .1)
 
 pub add-entry-spec : {M : Type 1} → statement M
@@ -83,7 +80,7 @@ add-entry-spec =
     open-rib-requires
     enum-known-r
     enum-known-b
-    push-after-requires
+    push-entry-requires
     enum-known-r-2
     enum-known-next
     same-length
