@@ -4,7 +4,7 @@ use mathlib.Core.Path.{_≡_, refl, _∙_, ap}
 use mathlib.Core.List.{List}
 use lib.ListN.{length, getD}
 use borrow.Author.Tests.{le-leb, lt-leb}
-use Rattle.rib_write.specs.Add.{Pushing, pushed, pushEntry}
+use Rattle.rib_write.specs.Push.{Pushing, pushed, pushEntry}
 use Rattle.rib_write.specs.declared.BuilderAnswer.{BuilderAnswer}
 use Rattle.rib_write.specs.declared.BuilderAnswer.the-variants.{Open, Refused}
 use Rattle.rib_write.specs.declared.NewEntry.{NewEntry}

@@ -6,7 +6,8 @@ use mathlib.Core.List.{List, [], _∷_}
 use mathlib.Core.Bool.{Bool, _&&_, cond}
 use lib.ListN.{length, getD}
 use lib.Dec.{leb}
-use Rattle.rib_write.specs.Add.{Opening, Pushing, pushEntry}
+use Rattle.rib_write.specs.Push.{Pushing, pushEntry}
+use Rattle.rib_add.specs.Add.{Opening}
 use Rattle.rib_write.specs.declared.Builder.{Builder}
 use Rattle.rib_write.specs.declared.NewEntry.{NewEntry}
 use Rattle.mrt_lent.specs.Export.{exported}

@@ -1,7 +1,7 @@
 // RIB bodies across the boundary, built entry by entry. Apart from the other writers: the push is then the one caller of what it
 // calls, which the compiler takes in, so that no builder goes through memory.
 ghost use mathlib.Core.Path.{_≡_};
-ghost use Rattle.rib_write.specs.Add.{openOf};
+ghost use Rattle.rib_add.specs.Add.{openOf};
 ghost use Rattle.mrt_rib_build.specs.Build.{openedOut, pushOut};
 use rib_write::Builder;
 use rib_write::BuilderAnswer;

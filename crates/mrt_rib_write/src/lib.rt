@@ -1,6 +1,6 @@
 // RIB bodies across the boundary, written.
 ghost use mathlib.Core.Path.{_≡_};
-ghost use Rattle.rib_write.specs.Add.{addEntry};
+ghost use Rattle.rib_add.specs.Add.{addEntry};
 ghost use Rattle.mrt_lent.specs.Writer.{writtenOut};
 ghost use Rattle.mrt_rib_write.specs.Begin.{beginFrom};
 use answer::Refusal;

@@ -1,8 +1,7 @@
-// RIB bodies opened for more entries, and given one at their end (RFC 6396, 4.3.4; RFC 8050, 4). The definitions stand beside those of
-// the push, in `rib_write`.
+// RIB bodies opened for more entries, and given one at their end (RFC 6396, 4.3.4; RFC 8050, 4).
 ghost use mathlib.Core.Path.{_≡_};
 ghost use Rattle.answer.specs.Writing.{wrote};
-ghost use Rattle.rib_write.specs.Add.{openValues, openOf, addEntry};
+ghost use Rattle.rib_add.specs.Add.{openValues, openOf, addEntry};
 use answer::Refusal;
 use answer::Written;
 use rib_entries::CursorAnswer;

@@ -22,7 +22,7 @@ use Rattle.rib_write.specs.Rows.{entryIn, attributesIn, askable, Rowing,
 use Rattle.rib_write.specs.Rows.{Rowed, rowed, unrowed, rowsValues, pushEntries}
 use Rattle.rib_write.specs.Steps.{sizeIn, taken, putRow, closed}
 use Rattle.rib_head.specs.Layout.{pathSize}
-use Rattle.rib_write.specs.Add.{standing, Pushing, unpushed, unfit, added, pushAfter, pushEntry}
+use Rattle.rib_write.specs.Push.{standing, Pushing, unpushed, unfit, added, pushAfter, pushEntry}
 use Rattle.rib_write.specs.declared.NewEntry.{NewEntry}
 use Rattle.rib_write.specs.declared.Builder.{Builder}
 use Rattle.rib_write.specs.declared.RowsAnswer.{RowsAnswer}

@@ -14,7 +14,7 @@ use Rattle.octets.proofs.Stores.{length-patch, patch-within, patch-own}
 use Rattle.rib_head.specs.Layout.{mostBits, prefixSize}
 use Rattle.rib_head.specs.Head.{bitsOf, countAt, declared, entriesAt, readable, checkRib}
 use Rattle.rib_head.proofs.Heads.{met-within, met-carried, met-most}
-use Rattle.rib_write.specs.Add.{standing, added}
+use Rattle.rib_write.specs.Push.{standing, added}
 use Rattle.rib_write.specs.declared.Builder.{Builder}
 
 pub both : (a b : Bool) → (a && b) ≡ true → (a ≡ true) × (b ≡ true)

@@ -1,22 +1,15 @@
--- Each answer of a builder is known by what it says: two answers of which a definition says the same are equal.
+-- Each answer is known by what it says: two answers of which a definition says the same are equal, and so is the output that each leaves.
 use Prim.Native.Nat.{ℕ}
 use mathlib.Core.Path.{_≡_, sym, ap}
 use mathlib.Core.List.{List}
 use Rattle.answer.proofs.Refusals.{number-not-zero, number-unique}
-use Rattle.rib_write.specs.Add.{Opening, openValues, Pushing, pushed}
+use Rattle.rib_write.specs.Push.{Pushing, pushed}
 use Rattle.rib_write.specs.Rows.{Rowed, rowsValues}
 use Rattle.rib_write.specs.declared.RowsAnswer.{RowsAnswer}
 use Rattle.rib_write.specs.declared.RowsAnswer.the-variants as rows
 use Rattle.rib_write.specs.declared.BuilderAnswer.{BuilderAnswer}
 use Rattle.rib_write.specs.declared.BuilderAnswer.the-variants.{Open, Refused}
 
-pub open-unique : (a b : BuilderAnswer) → openValues a ≡ openValues b → a ≡ b
-open-unique (Open c) (Open d) q = ap (λ (x : Opening). Open (record { len = x .len; at = x .at; count = x .count })) q
-open-unique (Open c) (Refused r) q = absurd (number-not-zero r (ap (λ (x : Opening). x .number) (sym q)))
-open-unique (Refused r) (Open d) q = absurd (number-not-zero r (ap (λ (x : Opening). x .number) q))
-open-unique (Refused r) (Refused s) q = ap Refused (number-unique r s (ap (λ (x : Opening). x .number) q))
-
--- with the output that each leaves
 pub pushed-unique : (a b : BuilderAnswer) (t u : List ℕ) → pushed a t ≡ pushed b u → (a ≡ b) × (t ≡ u)
 pushed-unique (Open c) (Open d) t u q =
     (ap (λ (x : Pushing). Open (record { len = x .len; at = x .at; count = x .count })) q, ap (λ (x : Pushing). x .output) q)

@@ -9,7 +9,7 @@ use lib.ListN.{length, take, getD}
 use lib.Dec.{leb, ltb, eqb}
 use Rattle.answer.specs.Refusal.{numberOf}
 use Rattle.octets.specs.Octets.{part}
-use Rattle.rib_write.specs.Add.{Pushing, unpushed, standing, pushEntry}
+use Rattle.rib_write.specs.Push.{Pushing, unpushed, standing, pushEntry}
 use Rattle.rib_write.specs.declared.NewEntry.{NewEntry}
 use Rattle.rib_write.specs.declared.Builder.{Builder}
 use Rattle.rib_write.specs.declared.RowsAnswer.{RowsAnswer}

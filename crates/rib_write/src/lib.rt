@@ -1,9 +1,9 @@
 // RIB bodies in lent output, given entries where a builder stands, one or many by a call (RFC 6396, 4.3.4; RFC 8050, 4).
-mod add;
+mod push;
 mod rows;
 
-pub use add::push_entry;
 use answer::Refusal;
+pub use push::push_entry;
 pub use rows::push_entries;
 
 pub struct NewEntry {

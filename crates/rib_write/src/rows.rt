@@ -4,13 +4,13 @@ ghost use Prim.Native.Nat.{_+_, _*_, _/_, _%_, _<_, _≤_, min};
 ghost use mathlib.Core.Bool.{cond};
 ghost use lib.ListN.{length, take};
 ghost use lib.Dec.{eqb};
-ghost use Rattle.rib_write.specs.Add.{standing};
+ghost use Rattle.rib_write.specs.Push.{standing};
 ghost use Rattle.rib_write.specs.Rows.{rowsValues, rowed, pushRows, pushEntries};
 ghost use Rattle.rib_write.specs.Steps.{putRow, closed};
 use crate::Builder;
 use crate::RowsAnswer;
-use crate::add::check_builder;
-use crate::add::put_entry;
+use crate::push::check_builder;
+use crate::push::put_entry;
 use answer::Outcome;
 use answer::Refusal;
 

@@ -14,10 +14,10 @@ use Rattle.rib_head.specs.Layout.{carried, mostBits, pathSize, prefixSize}
 use Rattle.rib_head.specs.Head.{bitsOf, countAt, declared, entriesAt, readable, checkRib}
 use Rattle.rib_entries.specs.Entry.{passed}
 use Rattle.rib_entries.specs.declared.Cursor.{Cursor}
-use Rattle.rib_write.proofs.Opened.{Whole, standing-whole}
+use Rattle.rib_add.proofs.Opened.{Whole, standing-whole}
 use Rattle.whole.specs.Run.{Given, givenOctets, entriesOctets}
 use Rattle.rib_begin.specs.Layout.{headWith}
-use Rattle.rib_write.specs.Add.{unfit, added, Pushing, unpushed, standing, pushAfter, pushEntry}
+use Rattle.rib_write.specs.Push.{unfit, added, Pushing, unpushed, standing, pushAfter, pushEntry}
 use Rattle.rib_write.specs.declared.Builder.{Builder}
 use Rattle.octets.proofs.Stores.{patch-between}
 use Rattle.whole.proofs.Tests.{cond-last}

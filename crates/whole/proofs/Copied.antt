@@ -20,12 +20,13 @@ use Rattle.rib_head.proofs.Heads.{met-within, met-carried, met-most}
 use Rattle.rib_entries.specs.Entry.{attributesAt, entryEnd, fits, entryHere, passed, noStep, nextOf}
 use Rattle.rib_entries.specs.declared.Cursor.{Cursor}
 use Rattle.rib_entries.proofs.Passing.{by-fit}
-use Rattle.rib_write.specs.Add.{openOf, Pushing, pushEntry}
+use Rattle.rib_write.specs.Push.{Pushing, pushEntry}
+use Rattle.rib_add.specs.Add.{openOf}
 use Rattle.rib_write.specs.Rows.{pushRow, Rowing, oneMore, builderAfter, pushRows, rowed}
 use Rattle.rib_write.specs.Rows.{pushEntries}
 use Rattle.rib_write.specs.declared.Builder.{Builder}
 use Rattle.rib_write.proofs.ByRows.{Asked, askable-so, rows-one}
-use Rattle.rib_write.proofs.Opened.{Whole, whole-opened}
+use Rattle.rib_add.proofs.Opened.{Whole, whole-opened}
 use Rattle.mrt_lent.specs.Rows.{row, none, rowsFrom, rowsOn, rowsHanded}
 use Rattle.mrt_rib_entries.specs.Entries.{entryTurn, entryAt, holdsCursor, entriesOut}
 use Rattle.mrt_rib_build.specs.Build.{holdsBuilder}

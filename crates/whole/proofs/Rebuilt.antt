@@ -24,7 +24,7 @@ use Rattle.rib_write.specs.Layout.{entryOctets}
 use Rattle.whole.specs.Run.{tidied}
 use Rattle.octets.proofs.Numbers.{be-lt}
 use Rattle.octets.proofs.Parts.{length-part, part-join}
-use Rattle.rib_write.proofs.Opened.{Whole}
+use Rattle.rib_add.proofs.Opened.{Whole}
 use Rattle.whole.proofs.Seams.{Kept, AllKept, givenAt, givensAt}
 use Rattle.whole.proofs.Built.{body, Fitting}
 

@@ -26,12 +26,11 @@ use Rattle.whole.proofs.HandedOut.{fits-below}
 use Rattle.whole.specs.Run.{Given, entriesOctets}
 use Rattle.rib_begin.specs.Layout.{headOctets}
 use Rattle.rib_begin.specs.Begin.{beginRib}
-use Rattle.rib_write.specs.Add.{openOf}
+use Rattle.rib_add.specs.Add.{openOf, lengthOnly}
 use Rattle.whole.specs.Run.{adds, opened, pushes, givenOf, readBack, tidied}
-use Rattle.rib_write.specs.Add.{lengthOnly}
 use Rattle.octets.proofs.Parts.{length-part}
 use Rattle.rib_begin.proofs.Sizes.{length-head}
-use Rattle.rib_write.proofs.Opened.{Whole, whole-opened, open-whole}
+use Rattle.rib_add.proofs.Opened.{Whole, whole-opened, open-whole}
 use Rattle.whole.proofs.Seams.{Front, headOf, givenAt, givensAt, givens-built, bits-at, entries-at, sequence-at, prefix-at}
 use Rattle.whole.proofs.Seams.{cleared-again}
 use Rattle.whole.proofs.Built.{body, state, body-split, length-body, Sound, Fitting, check-built, declared-built, passed-all}

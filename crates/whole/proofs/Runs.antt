@@ -14,11 +14,11 @@ use Rattle.rib_head.specs.Layout.{pathSize, prefixSize}
 use Rattle.rib_head.specs.Head.{countAt}
 use Rattle.rib_head.proofs.Layouts.{path-size, path-size-le}
 use Rattle.whole.specs.Run.{Given, givenOctets, entriesOctets}
-use Rattle.rib_write.specs.Add.{unfit, addEntry, Pushing, unpushed}
+use Rattle.rib_write.specs.Push.{unfit, Pushing, unpushed}
+use Rattle.rib_add.specs.Add.{addEntry, lengthOnly}
 use Rattle.whole.specs.Run.{adds, pushes}
-use Rattle.rib_write.specs.Add.{lengthOnly}
 use Rattle.rib_write.proofs.Answers.{count-room}
-use Rattle.rib_write.proofs.Opened.{add-of-push}
+use Rattle.rib_add.proofs.Opened.{add-of-push}
 use Rattle.whole.proofs.Seams.{Kept, AllKept, Front, count-at}
 use Rattle.whole.proofs.Built.{body, body-split, state, Sound, Fitting, declared-built, whole-built, push-built}
 

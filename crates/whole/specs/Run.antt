@@ -12,7 +12,8 @@ use Rattle.rib_head.specs.Prefix.{cleared}
 use Rattle.rib_head.specs.Head.{bitsOf, countAt}
 use Rattle.rib_entries.specs.Entry.{entryOf}
 use Rattle.rib_write.specs.Layout.{entryOctets}
-use Rattle.rib_write.specs.Add.{Opening, Pushing, addEntry, pushEntry}
+use Rattle.rib_write.specs.Push.{Pushing, pushEntry}
+use Rattle.rib_add.specs.Add.{Opening, addEntry}
 use Rattle.rib_write.specs.declared.NewEntry.{NewEntry}
 
 -- an entry with its attributes

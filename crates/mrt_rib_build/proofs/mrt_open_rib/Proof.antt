@@ -1,5 +1,5 @@
 use mathlib.Core.Path.{refl}
-use Rattle.rib_write.specs.Add.{Opening, openValues}
+use Rattle.rib_add.specs.Add.{Opening, openValues}
 use Rattle.rib_write.specs.declared.BuilderAnswer.the-variants.{Refused}
 use Rattle.mrt_rib_build.specs.Build.{openedValues}
 use Rattle.mrt_lent.proofs.Handing.{refuses, hands}

@@ -1,5 +1,5 @@
 use mathlib.Core.Path.{refl}
-use Rattle.rib_write.specs.Add.{Pushing, pushed}
+use Rattle.rib_write.specs.Push.{Pushing, pushed}
 use Rattle.rib_write.specs.declared.BuilderAnswer.{BuilderAnswer}
 use Rattle.rib_write.specs.declared.BuilderAnswer.the-variants.{Refused}
 use Rattle.mrt_lent.proofs.Handing.{refuses, hands}

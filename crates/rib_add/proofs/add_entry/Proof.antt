@@ -1,8 +1,8 @@
 use mathlib.Core.Path.{sym}
 use lib.Seq.{length-take-le}
 use borrow.Author.Needs.{needs}
-use Rattle.rib_write.proofs.Opened.{add-refused, add-open}
-use Rattle.rib_write.proofs.Answers.{add-beyond, add-unmet}
+use Rattle.rib_add.proofs.Opened.{add-refused, add-open}
+use Rattle.rib_add.proofs.Answers.{add-beyond, add-unmet}
 use Rattle.rib_add.proofs.add_entry.Statement.{statement}
 use Rattle.rib_add.proofs.add_entry.Tie as tie
 

@@ -1,7 +1,7 @@
 use native.Mathlib.Omega.{arith}
 use Rattle.rib_head.specs.Layout.{prefixSize}
 use borrow.Author.Needs.{needs}
-use Rattle.rib_write.proofs.Answers.{open-unmet, open-left, open-over, open-met}
+use Rattle.rib_add.proofs.Answers.{open-unmet, open-left, open-over, open-met}
 use Rattle.rib_add.proofs.open_rib.Statement.{statement}
 use Rattle.rib_add.proofs.open_rib.Tie as tie
 

@@ -1,8 +1,8 @@
 use borrow.Author.Needs.{needs}
 use Rattle.rib_head.proofs.Heads.{path-of}
 use Rattle.rib_write.proofs.Answers.{unfit-count, unfit-length, unfit-never, unfit-path}
-use Rattle.rib_write.proofs.add.is_unfit.Statement.{statement}
-use Rattle.rib_write.proofs.add.is_unfit.Tie as tie
+use Rattle.rib_write.proofs.push.is_unfit.Statement.{statement}
+use Rattle.rib_write.proofs.push.is_unfit.Tie as tie
 
 returns : tie.Need-returns
 returns c = unfit-count _ _ _ _ (c .if1 .taken)

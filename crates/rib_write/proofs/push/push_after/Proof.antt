@@ -5,8 +5,8 @@ use Rattle.rib_head.proofs.Heads.{path-of}
 use Rattle.rib_write.proofs.Answers.{fit-count, count-room, after-unfit, after-full, after-done}
 use Rattle.rib_write.proofs.Written.{part-stored}
 use borrow.Author.Needs.{needs}
-use Rattle.rib_write.proofs.add.push_after.Statement.{statement}
-use Rattle.rib_write.proofs.add.push_after.Tie as tie
+use Rattle.rib_write.proofs.push.push_after.Statement.{statement}
+use Rattle.rib_write.proofs.push.push_after.Tie as tie
 
 is-unfit-requires : tie.Need-is-unfit-requires
 is-unfit-requires c κs = search needs

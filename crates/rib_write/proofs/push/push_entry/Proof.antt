@@ -2,8 +2,8 @@ use mathlib.Core.Path.{sym}
 use lib.Seq.{length-take-le}
 use borrow.Author.Needs.{needs}
 use Rattle.rib_write.proofs.Answers.{push-beyond, push-unmet, push-met}
-use Rattle.rib_write.proofs.add.push_entry.Statement.{statement}
-use Rattle.rib_write.proofs.add.push_entry.Tie as tie
+use Rattle.rib_write.proofs.push.push_entry.Statement.{statement}
+use Rattle.rib_write.proofs.push.push_entry.Tie as tie
 
 returns : tie.Need-returns
 returns c = push-beyond _ _ _ _ _ (c .if1 .taken)

@@ -15,13 +15,13 @@ use Rattle.rib_head.specs.Layout.{pathSize}
 use Rattle.rib_head.specs.Head.{countAt, declared, entriesAt, checkRib}
 use Rattle.rib_entries.specs.Entry.{passed, placed, afterOf}
 use Rattle.rib_entries.specs.declared.Cursor.{Cursor}
 use Rattle.rib_write.specs.Layout.{entryOctets}
-use Rattle.rib_write.specs.Add.{Opening, unopened, openValues, openOf, unfit, added, addEntry, Pushing, unpushed, pushed}
-use Rattle.rib_write.specs.Add.{standing, pushAfter, pushEntry, lengthOnly}
+use Rattle.rib_write.specs.Push.{unfit, added, Pushing, unpushed, pushed, standing, pushAfter, pushEntry}
 use Rattle.rib_write.specs.declared.NewEntry.{NewEntry}
 use Rattle.rib_write.specs.declared.Builder.{Builder}
 use Rattle.rib_write.specs.declared.BuilderAnswer.{BuilderAnswer}
 use Rattle.rib_write.specs.declared.BuilderAnswer.the-variants.{Open, Refused}
+use Rattle.rib_add.specs.Add.{Opening, unopened, openValues, openOf, addEntry, lengthOnly}
 
 -- a body with every declared entry and nothing after them
 pub record Whole (s : List ℕ) (t : ℕ) : Type 0 where

@@ -1,8 +1,8 @@
 use Rattle.rib_head.proofs.Layouts.{sized-four}
 use Rattle.rib_write.proofs.Written.{path-unwritten, path-written}
 use borrow.Author.Needs.{needs}
-use Rattle.rib_write.proofs.add.put_path.Statement.{statement}
-use Rattle.rib_write.proofs.add.put_path.Tie as tie
+use Rattle.rib_write.proofs.push.put_path.Statement.{statement}
+use Rattle.rib_write.proofs.push.put_path.Tie as tie
 
 returns : tie.Need-returns
 returns c = path-unwritten _ _ _ _ (c .if1 .taken)

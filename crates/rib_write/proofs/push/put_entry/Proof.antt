@@ -4,8 +4,8 @@ use Rattle.octets.specs.Octets.{patch}
 use Rattle.rib_head.proofs.Layouts.{sized-le}
 use Rattle.rib_write.proofs.Written.{bytes-cut, path-cut, entry-stored}
 use borrow.Author.Needs.{needs}
-use Rattle.rib_write.proofs.add.put_entry.Statement.{statement}
-use Rattle.rib_write.proofs.add.put_entry.Tie as tie
+use Rattle.rib_write.proofs.push.put_entry.Statement.{statement}
+use Rattle.rib_write.proofs.push.put_entry.Tie as tie
 
 mul-store16 : tie.Need-mul-store16
 mul-store16 c = search needs

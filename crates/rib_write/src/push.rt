@@ -7,7 +7,7 @@ ghost use lib.Dec.{eqb};
 ghost use Rattle.answer.specs.Refusal.{outcomeNumber};
 ghost use Rattle.octets.specs.Octets.{bytesOf, patch};
 ghost use Rattle.rib_write.specs.Layout.{entryOctets};
-ghost use Rattle.rib_write.specs.Add.{unfit, pushed, standing, pushAfter, pushEntry};
+ghost use Rattle.rib_write.specs.Push.{unfit, pushed, standing, pushAfter, pushEntry};
 ghost use Rattle.rib_write.specs.Rows.{entryIn};
 use crate::Builder;
 use crate::BuilderAnswer;

@@ -3,8 +3,8 @@ use borrow.Author.Needs.{needs}
 use Rattle.rib_head.specs.Layout.{prefixSize}
 use Rattle.rib_entries.proofs.Steps.{said-met, said-unmet}
 use Rattle.rib_write.proofs.Answers.{standing-unread, standing-apart, standing-another, standing-same}
-use Rattle.rib_write.proofs.add.check_builder.Statement.{statement}
-use Rattle.rib_write.proofs.add.check_builder.Tie as tie
+use Rattle.rib_write.proofs.push.check_builder.Statement.{statement}
+use Rattle.rib_write.proofs.push.check_builder.Tie as tie
 
 check-rib-requires : tie.Need-check-rib-requires
 check-rib-requires c κs = search needs
