@@ -136,14 +136,16 @@ module _ (t : ℕ) (h : Front) (full : length (h .octets) ≡ prefixSize (h .bit
       ap length (entries-snoc p gs g) ∙ length-append (entriesOctets p gs) (givenOctets p g) in
       omega (arith, length-body gs, length-body (gs ++ (g ∷ [])))
 
+-- where the count stands
+pub count-built : (t : ℕ) (h : Front) → Sound t h → (gs : List Given) → countAt (body t h gs) ≡ 5 + prefixSize (h .bits)
+count-built t h w gs = count-at h (length gs) (entriesOctets (pathSize t) gs) (w .full) (body t h gs) (body-split t h gs)
+
 -- what pushing an entry answers
 module _ (t : ℕ) (h : Front) (w : Sound t h) (gs : List Given) (k : Fitting t gs) where
   pub standing-built : standing (body t h gs) t (builder t h gs) ≡ 0
   standing-built =
       let s : List ℕ = body t h gs in
-      let c : countAt s ≡ 5 + prefixSize (h .bits) =
-      count-at h (length gs) (entriesOctets (pathSize t) gs) (w .full) s (body-split t h gs) in
-      rw (c, declared-built t h w gs k) at (standing-whole s t (whole-built t h w gs k) (length s))
+      rw (count-built t h w gs, declared-built t h w gs k) at (standing-whole s t (whole-built t h w gs k) (length s))
 
   pub push-built : (r : List ℕ) (g : Given)
       → pushEntry (body t h gs ++ r) t (builder t h gs) (g .entry) (g .attributes)

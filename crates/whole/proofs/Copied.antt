@@ -12,12 +12,12 @@ use lib.Dec.{ltb, eqb, eqb·suc-zero}
 use borrow.Author.Tests.{le-leb, le-ltb, eq-eqb, eqb-true, leb-true}
 use Rattle.octets.specs.Octets.{beAt, patch, part, Octets}
 use Rattle.octets.proofs.Numbers.{bytes-of-be}
-use Rattle.octets.proofs.Stores.{patch-front}
+use Rattle.octets.proofs.Stores.{patch-front, patch-over}
 use Rattle.octets.proofs.Parts.{length-part}
 use Rattle.rib_head.specs.Layout.{carried, pathSize, prefixSize}
-use Rattle.rib_head.specs.Head.{bitsOf, countAt, declared, entriesAt}
+use Rattle.rib_head.specs.Head.{bitsOf, countAt, declared, entriesAt, checkRib}
 use Rattle.rib_head.proofs.Heads.{met-within, met-carried, met-most}
-use Rattle.rib_entries.specs.Entry.{attributesAt, entryEnd, fits, entryHere, passed, noStep, nextOf}
+use Rattle.rib_entries.specs.Entry.{attributesAt, entryEnd, fits, entryHere, passed, placed, firstOf, noStep, nextOf}
 use Rattle.rib_entries.specs.declared.Cursor.{Cursor}
 use Rattle.rib_entries.proofs.Passing.{by-fit}
 use Rattle.rib_write.specs.Push.{Pushing, pushEntry}
@@ -26,15 +26,19 @@ use Rattle.rib_write.specs.Rows.{pushRow, Rowing, oneMore, builderAfter, pushRo
 use Rattle.rib_write.specs.Rows.{pushEntries}
 use Rattle.rib_write.specs.declared.Builder.{Builder}
 use Rattle.rib_write.proofs.ByRows.{Asked, askable-so, rows-one}
-use Rattle.rib_add.proofs.Opened.{Whole, whole-opened}
+use Rattle.rib_add.proofs.Opened.{Whole, whole-opened, open-whole}
 use Rattle.mrt_lent.specs.Rows.{row, none, rowsFrom, rowsOn, rowsHanded}
+use Rattle.mrt_lent.specs.Export.{exported}
+use Rattle.mrt_lent.specs.declared.Handed.{Handed}
+use Rattle.mrt_rib_cursor.specs.Entries.{placedOut}
 use Rattle.mrt_rib_entries.specs.Entries.{entryTurn, entryAt, holdsCursor, entriesOut}
-use Rattle.mrt_rib_build.specs.Build.{holdsBuilder}
+use Rattle.mrt_rib_build.specs.Build.{openedOut, holdsBuilder}
 use Rattle.mrt_rib_rows.specs.Rows.{rowsOut}
 use Rattle.rib_begin.specs.Layout.{headWith}
 use Rattle.whole.specs.Run.{Given, pushes, entriesOctets, headAlone}
 use Rattle.whole.proofs.Seams.{Front, givenAt, givensAt}
-use Rattle.whole.proofs.Built.{body, state, builder, Sound, Fitting, standing-built, length-body}
+use Rattle.whole.proofs.Built.{body, state, builder, Sound, Fitting, length-body}
+use Rattle.whole.proofs.Built.{count-built, declared-built, whole-built, standing-built}
 use Rattle.whole.proofs.Runs.{Typed, AllTyped, typed-kept, pushes-fitting}
 use Rattle.whole.proofs.Rebuilt.{gs, within, declared-lt, length-givens, length-entries, fitting-all, body-own}
 
@@ -249,26 +253,43 @@ module _ (s : List ℕ) (t : ℕ) (o : Octets s) (z : openOf s t .number ≡ 0) 
         length-givens (pathSize t) s o (declared s) (entriesAt s),
       ) at (entries-in r h)
 
-  -- of the exported calls: the cursor of the first entry, places for all rows, and a builder at the end of the head
-  module _ (cs places ws : List ℕ) (two : 2 ≤ length cs) (first : getD cs 0 0 ≡ entriesAt s) (left : getD cs 1 0 ≡ declared s)
-      (five : 5 ≤ length places) (enough : 5 * declared s ≤ length places) (three : 3 ≤ length ws) (end : getD ws 0 0 ≡ entriesAt s)
-      (count : getD ws 1 0 ≡ countAt s) (none : getD ws 2 0 ≡ 0) where
-    rows-handed : entriesOut s t cs places
-        ≡ (patch cs 0 (length s ∷ 0 ∷ []), (patch places 0 rowsOf, rowsHanded (declared s)))
+  -- the head alone is opened at its end
+  opened-alone : openOf (headAlone s) t ≡ record { number = 0; len = entriesAt s; at = countAt s; count = 0 }
+  unfolding countAt
+  opened-alone =
+      let x : List ℕ = body t own [] in
+      let none : Fitting t [] = record { kept = tt; count = omega arith } in
+      let c : countAt x ≡ 5 + prefixSize (bitsOf s) = count-built t own sound [] in
+      rw (length-alone, c, declared-built t own sound [] none, head-alone) at (open-whole x t (whole-built t own sound [] none))
+
+  -- of the exported calls, with places for their values: the cursor that `mrt_first_entry` places, all rows by one call, and the builder
+  -- that `mrt_open_rib` opens over the head alone
+  module _ (cs places ws : List ℕ) (two : 2 ≤ length cs) (five : 5 ≤ length places) (enough : 5 * declared s ≤ length places)
+      (three : 3 ≤ length ws) where
+    -- what the calls leave in the places
+    placed-first : placedOut cs (firstOf s t) ≡ (patch cs 0 (entriesAt s ∷ declared s ∷ []), 0)
+    unfolding firstOf placed exported
+    placed-first = rw (eq-eqb (checkRib s t) 0 (whole .check), le-leb 2 (length cs) two)
+
+    opened-end : openedOut ws (openOf (headAlone s) t) ≡ (patch ws 0 (entriesAt s ∷ countAt s ∷ 0 ∷ []), 0)
+    unfolding exported
+    opened-end = rw (opened-alone, le-leb 3 (length ws) three)
+
+    rows-handed : {c : List ℕ} → c ≡ patch cs 0 (entriesAt s ∷ declared s ∷ [])
+        → entriesOut s t c places .1 ≡ (patch places 0 rowsOf, rowsHanded (declared s))
     unfolding entriesOut holdsCursor
-    rows-handed =
+    rows-handed e =
         let c = met-carried s t (whole .check) in
         let d = declared-lt s t o whole in
         rw (
-          le-leb 2 (length cs) two,
-          first,
-          left,
+          e,
+          patch-front cs (entriesAt s ∷ declared s ∷ []) two,
+          le-leb 2 (suc (suc (length (drop 2 cs)))) (omega arith),
           le-leb (declared s) 65535 (omega arith),
           le-leb (entriesAt s) (length s) (met-within s t (whole .check)),
           c,
           le-leb 5 (length places) five,
           handed s t c (declared s) (entriesAt s) (length places / 5) (whole .left) (omega arith),
-          whole .at,
         )
 
     rows-there : take (5 * declared s) (patch places 0 rowsOf) ≡ rowsOf
@@ -277,8 +298,25 @@ module _ (s : List ℕ) (t : ℕ) (o : Octets s) (z : openOf s t .number ≡ 0) 
         ap (take (5 * declared s)) (patch-front places rowsOf (omega arith))
         ∙ take-at rowsOf (drop (length rowsOf) places) (5 * declared s) n
 
-    pub copied-by-rows : (r : List ℕ) → length s - entriesAt s ≤ length r
-        → rowsOut (headAlone s ++ r) t ws (take (5 * entriesOut s t cs places .1 .1 .count) (entriesOut s t cs places .1 .0)) s
-        ≡ (s ++ drop (length s - entriesAt s) r, (patch ws 0 (length s ∷ countAt s ∷ declared s ∷ []), rowsHanded (declared s)))
-    unfolding rowsOut holdsBuilder
-    copied-by-rows r h = rw (rows-handed, rows-there, le-leb 3 (length ws) three, end, count, none, copied r h)
+    module _ (r : List ℕ) (h : length s - entriesAt s ≤ length r) where
+      rows-in : {w : List ℕ} → w ≡ patch ws 0 (entriesAt s ∷ countAt s ∷ 0 ∷ [])
+          → rowsOut (headAlone s ++ r) t w rowsOf s
+          ≡ (s ++ drop (length s - entriesAt s) r, (patch w 0 (length s ∷ countAt s ∷ declared s ∷ []), rowsHanded (declared s)))
+      unfolding rowsOut holdsBuilder
+      rows-in e =
+          let f = e ∙ patch-front ws (entriesAt s ∷ countAt s ∷ 0 ∷ []) three in
+          rw (f, le-leb 3 (suc (suc (suc (length (drop 3 ws))))) (omega arith), copied r h)
+
+      pub copied-by-rows : rowsOut (headAlone s ++ r) t (openedOut ws (openOf (headAlone s) t) .0)
+          (take (5 * entriesOut s t (placedOut cs (firstOf s t) .0) places .1 .1 .count)
+          (entriesOut s t (placedOut cs (firstOf s t) .0) places .1 .0)) s
+          ≡ (s ++ drop (length s - entriesAt s) r, (patch ws 0 (length s ∷ countAt s ∷ declared s ∷ []), rowsHanded (declared s)))
+      copied-by-rows =
+          let w = ap (λ (x : List ℕ × ℕ). x .0) opened-end in
+          let v = rows-handed (ap (λ (x : List ℕ × ℕ). x .0) placed-first) in
+          let all : List ℕ × Handed → List ℕ = λ x. take (5 * x .1 .count) (x .0) in
+          ap (λ (l : List ℕ). rowsOut (headAlone s ++ r) t (openedOut ws (openOf (headAlone s) t) .0) l s) (ap all v ∙ rows-there)
+          ∙ rows-in w
+          ∙ ap (λ (l : List ℕ). (s ++ drop (length s - entriesAt s) r, (l, rowsHanded (declared s))))
+          (ap (λ (l : List ℕ). patch l 0 (length s ∷ countAt s ∷ declared s ∷ [])) w
+          ∙ patch-over ws 0 (entriesAt s ∷ countAt s ∷ 0 ∷ []) (length s ∷ countAt s ∷ declared s ∷ []) (omega arith) three)
