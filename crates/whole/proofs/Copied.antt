@@ -262,7 +262,7 @@ module _ (s : List ℕ) (t : ℕ) (o : Octets s) (z : openOf s t .number ≡ 0) 
       let c : countAt x ≡ 5 + prefixSize (bitsOf s) = count-built t own sound [] in
       rw (length-alone, c, declared-built t own sound [] none, head-alone) at (open-whole x t (whole-built t own sound [] none))
 
-  -- of the exported calls, with places for their values: the cursor that `mrt_first_entry` places, all rows by one call, and the builder
+  -- of the exported calls, with places for their values: the cursor that `mrt_rib_first` places, all rows by one call, and the builder
   -- that `mrt_open_rib` opens over the head alone
   module _ (cs places ws : List ℕ) (two : 2 ≤ length cs) (five : 5 ≤ length places) (enough : 5 * declared s ≤ length places)
       (three : 3 ≤ length ws) where
