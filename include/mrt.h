@@ -1,5 +1,5 @@
 /*
- * MRT dumps (RFC 6396, RFC 8050): headers, records, peer tables, RIB bodies and the recovering walk.
+ * MRT dumps (RFC 6396, RFC 8050): headers, records, peer tables, RIB bodies, TABLE_DUMP bodies and the recovering walk.
  *
  * Each slice is passed as its pointer and its length in elements. A length of 0 may come with any pointer, NULL too.
  * Of a caller this is asked, which no call can test: the elements are there, aligned for their type; memory that a call
@@ -42,6 +42,7 @@ extern "C" {
 #define MRT_FIRST_VALUES 2
 #define MRT_STEP_VALUES 8
 #define MRT_BUILDER_VALUES 3
+#define MRT_TABLE_DUMP_VALUES 8
 #define MRT_CANDIDATE_VALUES 4
 
 /* The kinds of a walk's answer. */
@@ -247,6 +248,26 @@ uint32_t mrt_push_entry(uint8_t *out, size_t out_len, uint16_t subtype, uint64_t
 mrt_handed mrt_push_entries(uint8_t *out, size_t out_len, uint16_t subtype, uint64_t *builder, size_t builder_len,
                             const uint64_t *rows, size_t rows_len, const uint8_t *attributes, size_t attributes_len);
 
+/*
+ * The body of a TABLE_DUMP record, IPv4 for subtype 1 and IPv6 for 2. The prefix goes into the first 16 octets of `prefix` as it
+ * stands, bits after it too, and the peer's address into those of `peer`; zeros come after four octets.
+ * Values: view number, sequence number, prefix bits, status, originated time, peer AS, where the attributes start in the body,
+ * where they end. Refusals: 6, 7, 9 (fewer than eight places, or fewer than 16 octets in `prefix` or `peer`).
+ */
+uint32_t mrt_read_table_dump(const uint8_t *body, size_t body_len, uint16_t subtype, uint64_t *out, size_t out_len, uint8_t *prefix,
+                             size_t prefix_len, uint8_t *peer, size_t peer_len);
+
+/*
+ * Writes the body of a TABLE_DUMP record at the front of `out`. `prefix` and `peer` have 16 octets, of which the first four are
+ * written for subtype 1 and all for 2, as they stand.
+ * Refusals: 8 (a prefix or a peer of fewer octets), 6, 10 (more prefix bits than an address has, an AS above 65,535, or more than
+ * 65,535 octets of attributes), 9.
+ */
+mrt_written mrt_write_table_dump(uint8_t *out, size_t out_len, uint16_t subtype, uint16_t view, uint16_t sequence,
+                                 const uint8_t *prefix, size_t prefix_len, uint8_t bits, uint8_t status, uint32_t originated,
+                                 const uint8_t *peer, size_t peer_len, uint32_t asn, const uint8_t *attributes,
+                                 size_t attributes_len);
+
 /* The record's timestamp minus the originated time, in seconds: below zero where the route is later than the record. */
 int64_t mrt_age(uint32_t timestamp, uint32_t originated);
 
@@ -259,7 +280,7 @@ uint32_t mrt_candidate(const uint8_t *s, size_t s_len, size_t at, uint64_t *out,
 
 /*
  * The check of a body by the type, subtype and stored length of its record. Returns 0, 2 for a type that is not known, 5 for
- * one that is not carried, 6 or 7. Of type 5 the octets are not looked at.
+ * one that is not carried (any but 5, 12, 13, 16 and 17), 6 or 7. Of type 5 the octets are not looked at.
  */
 uint32_t mrt_check_body(const uint8_t *body, size_t body_len, uint16_t type, uint16_t subtype, uint32_t stored);
 

@@ -11,7 +11,7 @@ use measure::{measure, Line, Ratio, Work};
 use std::time::Duration;
 use works::peers::Table;
 use works::ribs::Rib;
-use works::walks;
+use works::{dumps, walks};
 
 const ROUNDS: usize = 15;
 
@@ -51,15 +51,19 @@ impl Chosen {
         }
     }
 
-    /// One line for a walk over a stream, or why there is none.
-    fn walk(&self, name: &str, stream: impl FnOnce() -> Result<Vec<u8>, String>, window: usize) {
+    /// One line for a work over a stream, or why there is none.
+    fn over(&self, name: &str, stream: impl FnOnce() -> Result<Vec<u8>, String>, work: impl Fn(&[u8]) -> Work<'_>) {
         if !self.has(name) {
             return;
         }
         match stream() {
             Err(why) => println!("| {name}: left out, {why} |"),
-            Ok(stream) => self.run(walks::walk(name, &stream, window, 3)),
+            Ok(stream) => self.run(work(&stream)),
         }
+    }
+
+    fn walk(&self, name: &str, stream: impl FnOnce() -> Result<Vec<u8>, String>, window: usize) {
+        self.over(name, stream, |stream| walks::walk(name, stream, window, 3));
     }
 }
 
@@ -75,6 +79,8 @@ fn main() {
     let few = || inputs::updates(MIB).map(|stream| stream[..MIB].to_vec());
     chosen.walk("walk, 1 MiB of updates", few, MIB);
     chosen.walk("walk, a RIB of 73 MiB", || inputs::big("bird2012_big_rib46.mrt.xz"), MIB);
+    let dumped = "32 MiB of type 12 records, walked and read";
+    chosen.over(dumped, || inputs::dumps(32 * MIB), |stream| dumps::read(dumped, stream));
     let torn = || inputs::updates(4 * MIB).map(|stream| inputs::torn(&stream));
     chosen.walk("walk, 4 MiB damaged every 5,000 octets", torn, MIB);
     chosen.walk("scan, 8 MiB of noise", || Ok(inputs::noise(8 * MIB)), 8 * MIB);

@@ -136,6 +136,36 @@ pub struct Rowed {
     pub builder: Builder,
 }
 
+/// The route of a TABLE_DUMP body. Prefix and peer address stand in the first four or all of sixteen octets; the AS number has
+/// two octets in the body.
+#[derive(Debug, Clone, Copy, PartialEq, Eq, Default)]
+pub struct DumpedRoute {
+    pub view: u16,
+    pub sequence: u16,
+    pub prefix: [u8; 16],
+    pub bits: u8,
+    pub status: u8,
+    pub originated: u32,
+    pub peer: [u8; 16],
+    pub asn: u32,
+}
+
+/// A TABLE_DUMP body that was read. The attributes are a part of it.
+#[derive(Debug, Clone, Copy, PartialEq, Eq, Default)]
+pub struct TableDump {
+    pub route: DumpedRoute,
+    pub attributes_at: usize,
+    pub attributes_end: usize,
+}
+
+/// A TABLE_DUMP body to be written.
+#[derive(Debug, Clone, Copy, PartialEq, Eq, Default)]
+pub struct NewDump<'a> {
+    pub subtype: u16,
+    pub route: DumpedRoute,
+    pub attributes: &'a [u8],
+}
+
 /// A candidate of the scan. `family` is 5 or 16; all is 0 where no candidate stands.
 #[derive(Debug, Clone, Copy, PartialEq, Eq, Default)]
 pub struct Candidate {

@@ -1,7 +1,10 @@
 //! Questions in the form in which the proved program `crates/oracle_questions` replays them: a call, octets, numbers, and the
 //! expected answer with the lent memory after the call. `crates/oracle_questions/README.md` has the layout of each.
 
-use crate::answers::{Answer, Candidate, Event, Frame, Header, NewEntry, Peer, PeerTable, RibEntry, RibTable};
+use crate::answers::{
+    Answer, Candidate, DumpedRoute, Event, Frame, Header, NewDump, NewEntry, Peer, PeerTable, RibEntry, RibTable,
+    TableDump,
+};
 use crate::oracle::Oracle;
 use crate::question::{Question, Reply};
 use crate::reading;
@@ -20,7 +23,7 @@ const MOST_ZEROS: usize = 16;
 const CURSOR_END: usize = 255;
 
 /// The list of each call, the first of which has the number 1.
-pub const LISTS: [&str; 19] = [
+pub const LISTS: [&str; 21] = [
     "header_read",
     "frame",
     "header_write",
@@ -40,6 +43,8 @@ pub const LISTS: [&str; 19] = [
     "rib_push",
     "walk_step",
     "whole_walk",
+    "table_dump_read",
+    "table_dump_write",
 ];
 
 #[derive(Debug, Clone, PartialEq, Eq)]
@@ -96,6 +101,9 @@ fn asked(question: &Question, subject: &dyn Subject) -> Vec<Asked> {
         (Question::Walk { stream, window, asked }, Reply::Walk(events)) => {
             vec![Asked::of(19, stream, &[window, asked.into()], events.iter().flat_map(row).collect())]
         }
+        (Question::TableDumpRead { subtype, body }, Reply::Dump(answer)) => {
+            vec![Asked::of(20, body, &[subtype.into()], dump(&answer))]
+        }
         (_, Reply::Written(answer, after)) => written(question, &answer, &after, subject),
         _ => Vec::new(),
     }
@@ -119,6 +127,11 @@ fn written(question: &Question, answer: &Answer<usize>, after: &[u8], subject: &
         Question::RibAdd { buffer, length, subtype, entry } => {
             let add = Asked::with(16, buffer, entry.attributes, &added(length, subtype, &entry), expected);
             std::iter::once(add).chain(pushed_twice(question, subject)).collect()
+        }
+        Question::TableDumpWrite { room, dump: NewDump { subtype, route, attributes } } => {
+            let parts = [&route.prefix[..], &route.peer, attributes].concat();
+            let numbers = [&[subtype.into()], &route_numbers(&route)[..]].concat();
+            vec![Asked::with(21, room, &parts, &numbers, expected)]
         }
         _ => Vec::new(),
     }
@@ -281,6 +294,19 @@ fn entry(answer: &Answer<RibEntry>) -> Vec<u8> {
     let RibEntry { peer_index, originated, path, attributes_at, attributes_len, .. } = answer.value;
     let end = attributes_at + attributes_len;
     answered(answer.refusal, &[peer_index.into(), originated as usize, path as usize, attributes_at, end])
+}
+
+/// The fields of a route that are numbers.
+fn route_numbers(route: &DumpedRoute) -> [usize; 6] {
+    let DumpedRoute { view, sequence, bits, status, originated, asn, .. } = *route;
+    [view.into(), sequence.into(), bits.into(), status.into(), originated as usize, asn as usize]
+}
+
+fn dump(answer: &Answer<TableDump>) -> Vec<u8> {
+    let TableDump { route, attributes_at, attributes_end } = answer.value;
+    let refusal = octets(&[answer.refusal.into()]);
+    let numbers = octets(&[&route_numbers(&route)[..], &[attributes_at, attributes_end]].concat());
+    [&refusal[..], &numbers, &route.prefix, &route.peer].concat()
 }
 
 fn row(event: &Event) -> Vec<u8> {

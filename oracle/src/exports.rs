@@ -1,6 +1,6 @@
 //! The exports of the proved library as `include/mrt.h` declares them, and a safe call over each.
 
-use crate::answers::{NewEntry, Peer};
+use crate::answers::{NewDump, NewEntry, Peer};
 
 /// What a writer returns: the octets written, 0 where it refuses.
 #[repr(C)]
@@ -166,6 +166,34 @@ mod raw {
             attributes: *const u8,
             attributes_len: usize,
         ) -> Handed;
+        pub fn mrt_read_table_dump(
+            body: *const u8,
+            len: usize,
+            subtype: u16,
+            out: *mut u64,
+            places: usize,
+            prefix: *mut u8,
+            prefix_len: usize,
+            peer: *mut u8,
+            peer_len: usize,
+        ) -> u32;
+        pub fn mrt_write_table_dump(
+            out: *mut u8,
+            room: usize,
+            subtype: u16,
+            view: u16,
+            sequence: u16,
+            prefix: *const u8,
+            prefix_len: usize,
+            bits: u8,
+            status: u8,
+            originated: u32,
+            peer: *const u8,
+            peer_len: usize,
+            asn: u32,
+            attributes: *const u8,
+            attributes_len: usize,
+        ) -> Written;
     }
 }
 
@@ -319,4 +347,38 @@ pub fn push_entries(out: &mut [u8], subtype: u16, builder: &mut [u64; 3], rows: 
     let (lent, room, places) = (out.as_mut_ptr(), out.len(), builder.as_mut_ptr());
     let (from, m) = (attributes.as_ptr(), attributes.len());
     unsafe { raw::mrt_push_entries(lent, room, subtype, places, 3, rows.as_ptr(), rows.len(), from, m) }
+}
+
+#[inline]
+pub fn read_table_dump(body: &[u8], subtype: u16, prefix: &mut [u8; 16], peer: &mut [u8; 16]) -> (u32, [u64; 8]) {
+    let (prefix, peer) = (prefix.as_mut_ptr(), peer.as_mut_ptr());
+    values(|out, places| unsafe {
+        raw::mrt_read_table_dump(body.as_ptr(), body.len(), subtype, out, places, prefix, 16, peer, 16)
+    })
+}
+
+#[inline]
+pub fn write_table_dump(out: &mut [u8], dump: &NewDump) -> Written {
+    let (lent, room, route) = (out.as_mut_ptr(), out.len(), &dump.route);
+    let (prefix, peer) = (route.prefix.as_ptr(), route.peer.as_ptr());
+    let (attributes, m) = (dump.attributes.as_ptr(), dump.attributes.len());
+    unsafe {
+        raw::mrt_write_table_dump(
+            lent,
+            room,
+            dump.subtype,
+            route.view,
+            route.sequence,
+            prefix,
+            16,
+            route.bits,
+            route.status,
+            route.originated,
+            peer,
+            16,
+            route.asn,
+            attributes,
+            m,
+        )
+    }
 }

@@ -37,6 +37,8 @@ pub fn may_be_silent(question: &Question, of_reading: &Reply) -> bool {
         Question::Candidate { stream, at } | Question::Aligned { stream, from: at, .. } => at > stream.len(),
         // The crate has no check of a body by itself, no cursor and no builder of the caller's.
         Question::BodyCheck { .. } | Question::RibNext { .. } | Question::RibPush { .. } => true,
+        // Its file for type 12 is not at hand.
+        Question::TableDumpRead { .. } | Question::TableDumpWrite { .. } => true,
         // It is given all rows, and writes them at once, where a builder is that of a whole body.
         Question::RibPushRows { .. } => true,
         // A scan may stop among the octets that are put before the place in question.
@@ -79,6 +81,7 @@ fn refusal(reply: &Reply) -> u8 {
         Reply::RibStep(answer) => answer.refusal,
         Reply::Pushed(answer, _) => answer.refusal,
         Reply::Rowed(answer, _) => answer.refusal,
+        Reply::Dump(answer) => answer.refusal,
         Reply::Candidate(answer) => answer.refusal,
         _ => 0,
     }

@@ -102,11 +102,24 @@ pub fn rib_entry(subtype: u16, peer_index: u16, attributes: &[u8]) -> Vec<u8> {
     out
 }
 
+/// A TABLE_DUMP body, its octets before the attribute length all different. Addresses have 16 octets for subtype 2 alone.
+pub fn table_dump(subtype: u16, bits: u8, attributes: &[u8]) -> Vec<u8> {
+    let x = if subtype == 2 { 16 } else { 4 };
+    let mut out = vec![1, 2, 3, 4];
+    out.extend(0xe0..0xe0 + x);
+    out.extend([bits, 5, 0x47, 6, 7, 8]);
+    out.extend(0x90..0x90 + x);
+    out.extend([0xfd, 0xe9]);
+    out.extend((attributes.len() as u16).to_be_bytes());
+    out.extend_from_slice(attributes);
+    out
+}
+
 /// A record that passes all checks.
 pub fn good_record(random: &mut Random) -> Vec<u8> {
     let kind = random.pick(&[16, 17]);
     let family = random.pick(&[1, 2]);
-    match random.below(8) {
+    match random.below(9) {
         0..=2 => {
             let subtype = random.pick(&STATE_CHANGES);
             record(kind, subtype, &state_change_body(subtype, family))
@@ -116,7 +129,11 @@ pub fn good_record(random: &mut Random) -> Vec<u8> {
             let (subtype, length) = random.pick(&LEGACY);
             record(5, subtype, &vec![0; length])
         }
-        _ => good_table(random),
+        7 => good_table(random),
+        _ => {
+            let (subtype, bits) = random.pick(&[(1, 0), (1, 24), (1, 32), (2, 0), (2, 33), (2, 128)]);
+            record(12, subtype, &table_dump(subtype, bits, random.pick(&[&[], &[64, 1, 1, 0]])))
+        }
     }
 }
 
@@ -139,16 +156,30 @@ fn good_table(random: &mut Random) -> Vec<u8> {
     record(13, subtype, &body)
 }
 
+/// One octet more or fewer than the attribute length says, a prefix bit too many, or another subtype.
+fn bad_table_dump(random: &mut Random) -> Vec<u8> {
+    let subtype = random.pick(&[1, 2]);
+    let mut body = table_dump(subtype, 24, &[64, 1, 1, 0]);
+    match random.below(4) {
+        0 => body.push(0),
+        1 => drop(body.pop()),
+        2 => body = table_dump(subtype, if subtype == 1 { 33 } else { 129 }, &[]),
+        _ => return record(12, random.pick(&[0, 3, 3 - subtype, 65_535]), &body),
+    }
+    record(12, subtype, &body)
+}
+
 /// A record that is framed and refused with 5, 6 or 7, or one that is not framed.
 pub fn bad_record(random: &mut Random) -> Vec<u8> {
     let length = random.below(40);
     let body = random.octets(length);
-    match random.below(6) {
-        0 => record(random.pick(&[0, 4, 12, 32, 33, 48, 49]), random.below(4) as u16, &body),
-        1 => record(random.pick(&[5, 13, 16, 17]), random.pick(&[2, 3, 6, 7, 12, 99]), &body),
-        2 => record(random.pick(&[5, 13, 16, 17]), random.below(12) as u16, &body),
+    match random.below(7) {
+        0 => record(random.pick(&[0, 4, 11, 32, 33, 48, 49]), random.below(4) as u16, &body),
+        1 => record(random.pick(&[5, 12, 13, 16, 17]), random.pick(&[2, 3, 6, 7, 12, 99]), &body),
+        2 => record(random.pick(&[5, 12, 13, 16, 17]), random.below(12) as u16, &body),
         3 => record(random.pick(&[14, 15, 18, 255, 256, 65_535]), 0, &body),
         4 => header(0, 17, 0, random.below(4) as u32),
+        5 => bad_table_dump(random),
         _ => header(0, random.pick(&[5, 12, 13, 16, 17, 32]), 1, random.pick(&[100, 70_000, 1 << 24, u32::MAX])),
     }
 }

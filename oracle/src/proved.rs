@@ -1,8 +1,8 @@
 //! The proved library, asked through its C exports (`include/mrt.h`). It is to have no difference from the reading.
 
 use crate::answers::{
-    Address, Answer, Builder, Candidate, Event, Frame, Header, NewEntry, NewRows, Peer, PeerTable, RibEntry, RibStep,
-    RibTable, Rowed, Walk,
+    Address, Answer, Builder, Candidate, DumpedRoute, Event, Frame, Header, NewDump, NewEntry, NewRows, Peer,
+    PeerTable, RibEntry, RibStep, RibTable, Rowed, TableDump, Walk,
 };
 use crate::exports::{self, Found, Handed, Written};
 use crate::question::{Question, Reply};
@@ -10,6 +10,8 @@ use crate::subject::{NewHead, NewTable, Subject};
 
 /// No refusal of 01: two exports that are to say the same do not.
 const AT_ODDS: u8 = 254;
+/// Octets that no answer is to keep.
+const LENT: [u8; 16] = [0xaa; 16];
 
 fn header(values: &[u64]) -> Header {
     Header {
@@ -315,6 +317,32 @@ impl Subject for Proved {
             (_, 0) if after == places(before) => Err(refusal as u8).into(),
             _ => Err(AT_ODDS).into(),
         })
+    }
+
+    /// Both addresses are written over what was lent, and a refusal leaves that and the places.
+    fn table_dump_read(&self, subtype: u16, body: &[u8]) -> Option<Answer<TableDump>> {
+        let (mut prefix, mut peer) = (LENT, LENT);
+        let (refusal, out) = exports::read_table_dump(body, subtype, &mut prefix, &mut peer);
+        if refusal != 0 {
+            let left = (out, prefix, peer) == ([0; 8], LENT, LENT);
+            return Some(Err(if left { refusal as u8 } else { AT_ODDS }).into());
+        }
+        let [view, sequence, bits, status, originated, asn, start, end] = out;
+        let route = DumpedRoute {
+            view: view as u16,
+            sequence: sequence as u16,
+            prefix,
+            bits: bits as u8,
+            status: status as u8,
+            originated: originated as u32,
+            peer,
+            asn: asn as u32,
+        };
+        Some(Ok(TableDump { route, attributes_at: start as usize, attributes_end: end as usize }).into())
+    }
+
+    fn table_dump_write(&self, out: &mut [u8], dump: &NewDump) -> Option<Answer<usize>> {
+        written(exports::write_table_dump(out, dump))
     }
 
     fn candidate(&self, stream: &[u8], offset: usize) -> Option<Answer<Candidate>> {

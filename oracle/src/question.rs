@@ -1,8 +1,8 @@
 //! One question with its input, put to any subject, and the reply with the lent memory as the call left it.
 
 use crate::answers::{
-    Address, Answer, Builder, Candidate, Event, Found, Frame, Header, NewEntry, NewRows, Peer, PeerTable, RibEntry,
-    RibStep, RibTable, Rowed, Tried, Walk,
+    Address, Answer, Builder, Candidate, Event, Found, Frame, Header, NewDump, NewEntry, NewRows, Peer, PeerTable,
+    RibEntry, RibStep, RibTable, Rowed, TableDump, Tried, Walk,
 };
 use crate::subject::{NewHead, NewTable, Subject};
 
@@ -25,6 +25,8 @@ pub enum Question<'a> {
     RibAdd { buffer: &'a [u8], length: usize, subtype: u16, entry: NewEntry<'a> },
     RibPush { buffer: &'a [u8], subtype: u16, builder: Builder, entry: NewEntry<'a> },
     RibPushRows { buffer: &'a [u8], subtype: u16, builder: Builder, rows: NewRows<'a> },
+    TableDumpRead { subtype: u16, body: &'a [u8] },
+    TableDumpWrite { room: &'a [u8], dump: NewDump<'a> },
     Candidate { stream: &'a [u8], at: usize },
     Aligned { stream: &'a [u8], from: usize, asked: u8 },
     Scan { stream: &'a [u8], from: usize, window: usize, asked: u8 },
@@ -47,6 +49,7 @@ pub enum Reply {
     RibStep(Answer<RibStep>),
     Pushed(Answer<Builder>, Vec<u8>),
     Rowed(Answer<Rowed>, Vec<u8>),
+    Dump(Answer<TableDump>),
     Candidate(Answer<Candidate>),
     Tried(Tried),
     Found(Found),
@@ -105,6 +108,7 @@ impl Question<'_> {
             Question::RibNext { subtype, body, at, left } => {
                 subject.rib_next(subtype, body, at, left).map(Reply::RibStep)
             }
+            Question::TableDumpRead { subtype, body } => subject.table_dump_read(subtype, body).map(Reply::Dump),
             _ => self.put_writing_question(subject),
         }
     }
@@ -114,6 +118,7 @@ impl Question<'_> {
             Question::HeaderWrite { room, header } => written(room, |out| subject.header_write(out, &header)),
             Question::PeerWrite { room, table } => written(room, |out| subject.peer_write(out, &table)),
             Question::RibBegin { room, head } => written(room, |out| subject.rib_begin(out, &head)),
+            Question::TableDumpWrite { room, dump } => written(room, |out| subject.table_dump_write(out, &dump)),
             Question::RibAdd { buffer, length, subtype, entry } => {
                 written(buffer, |out| subject.rib_add(out, length, subtype, &entry))
             }
@@ -150,6 +155,8 @@ impl Question<'_> {
             Question::RibAdd { .. } => "rib add",
             Question::RibPush { .. } => "rib push",
             Question::RibPushRows { .. } => "rib push by rows",
+            Question::TableDumpRead { .. } => "table dump read",
+            Question::TableDumpWrite { .. } => "table dump write",
             Question::Candidate { .. } => "candidate",
             Question::Aligned { .. } => "aligned try",
             Question::Scan { .. } => "scan",
@@ -175,7 +182,8 @@ impl Question<'_> {
             | Question::PeerRead { body, .. }
             | Question::RibRead { body, .. }
             | Question::RibEntry { body, .. }
-            | Question::RibNext { body, .. } => body,
+            | Question::RibNext { body, .. }
+            | Question::TableDumpRead { body, .. } => body,
             Question::RibPush { buffer, .. } | Question::RibPushRows { buffer, .. } => buffer,
             Question::RibAdd { buffer, length, .. } => buffer.get(..length).unwrap_or(buffer),
             _ => &[],
@@ -194,6 +202,7 @@ impl Question<'_> {
             Question::Judge { at, .. } => Some(Question::Judge { stream: input, at }),
             Question::Frame { at, .. } => Some(Question::Frame { stream: input, at }),
             Question::RibRead { subtype, .. } => Some(Question::RibRead { subtype, body: input }),
+            Question::TableDumpRead { subtype, .. } => Some(Question::TableDumpRead { subtype, body: input }),
             _ => None,
         }
     }

@@ -19,8 +19,15 @@ pub fn broken(question: &Question, reply: &Reply) -> Option<&'static str> {
             broken_by_refusal(answer).or_else(|| broken_by_prefix(&prefix, bits))
         }
         (_, Reply::Entry(answer)) => broken_by_refusal(answer),
+        (_, Reply::Dump(answer)) => broken_by_refusal(answer),
         (_, Reply::Candidate(answer)) => broken_by_refusal(answer),
         (_, Reply::RibStep(answer)) => broken_by_refusal(answer),
+        _ => broken_by_lent_memory(question, reply),
+    }
+}
+
+fn broken_by_lent_memory(question: &Question, reply: &Reply) -> Option<&'static str> {
+    match (question, reply) {
         (Question::RibPush { buffer, .. }, Reply::Pushed(answer, after)) => {
             broken_by_refusal(answer).or_else(|| broken_by_writing(buffer, after, 0..answer.value.length))
         }
@@ -41,6 +48,7 @@ pub fn broken(question: &Question, reply: &Reply) -> Option<&'static str> {
         (Question::HeaderWrite { room, .. }, Reply::Written(answer, after))
         | (Question::PeerWrite { room, .. }, Reply::Written(answer, after))
         | (Question::RibBegin { room, .. }, Reply::Written(answer, after))
+        | (Question::TableDumpWrite { room, .. }, Reply::Written(answer, after))
         | (Question::RibAdd { buffer: room, .. }, Reply::Written(answer, after)) => {
             // That the octets of a body before a new entry stay, but for the count, is for the crate to show.
             broken_by_refusal(answer).or_else(|| broken_by_writing(room, after, 0..answer.value))

@@ -1,6 +1,6 @@
 //! The lines of the lists: all of the questions around the bounds, and of many others a few for each way to answer.
 
-use crate::answers::Event;
+use crate::answers::{Event, NewDump};
 use crate::asked;
 use crate::question::{Question, Reply};
 use crate::random::Random;
@@ -67,7 +67,9 @@ fn is_small(question: &Question) -> bool {
             slots.len()
         }
         Question::PeerWrite { room, table } => table.slots.len() + usize::from(room.len() > MOST_OCTETS) * MOST_OCTETS,
-        Question::RibAdd { buffer, .. } => usize::from(buffer.len() > MOST_OCTETS) * MOST_OCTETS,
+        Question::RibAdd { buffer: room, .. } | Question::TableDumpWrite { room, .. } => {
+            usize::from(room.len() > MOST_OCTETS) * MOST_OCTETS
+        }
         _ => 0,
     };
     question.input().len() <= MOST_OCTETS && slots <= MOST_SLOTS
@@ -87,6 +89,9 @@ fn way(question: &Question, reply: &Reply) -> String {
         Reply::Id(answer) | Reply::Added(answer, _) => format!("{} {}", answer.refusal, answer.value),
         Reply::Written(answer, _) => format!("{} {}", answer.refusal, answer.value),
         Reply::Rib(answer) => format!("{} {}", answer.refusal, answer.value.read),
+        Reply::Dump(answer) => {
+            format!("{} {}", answer.refusal, answer.value.attributes_end - answer.value.attributes_at)
+        }
         Reply::Entry(answer) => format!("{} {}", answer.refusal, answer.value.age.signum()),
         Reply::Walk(events) => events.iter().map(shape).collect(),
         other => format!("{other:?}"),
@@ -94,7 +99,10 @@ fn way(question: &Question, reply: &Reply) -> String {
     let of = match question {
         // 01 knows no type above 49
         Question::HeaderWrite { header, .. } => header.kind.min(50),
-        Question::RibRead { subtype, .. } | Question::RibEntry { subtype, .. } => *subtype,
+        Question::RibRead { subtype, .. }
+        | Question::RibEntry { subtype, .. }
+        | Question::TableDumpRead { subtype, .. }
+        | Question::TableDumpWrite { dump: NewDump { subtype, .. }, .. } => *subtype,
         _ => 0,
     };
     format!("{} {of} {detail}", question.kind())

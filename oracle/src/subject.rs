@@ -1,8 +1,8 @@
 //! Whoever answers 01's questions: the plain reading, the crate, and later the proved library through its C exports.
 
 use crate::answers::{
-    Address, Answer, Builder, Candidate, Event, Found, Frame, Header, NewEntry, NewRows, Peer, PeerTable, RibEntry,
-    RibStep, RibTable, Rowed, Tried, Walk,
+    Address, Answer, Builder, Candidate, Event, Found, Frame, Header, NewDump, NewEntry, NewRows, Peer, PeerTable,
+    RibEntry, RibStep, RibTable, Rowed, TableDump, Tried, Walk,
 };
 use crate::reading;
 
@@ -85,6 +85,14 @@ pub trait Subject {
         builder: Builder,
         rows: &NewRows,
     ) -> Option<Answer<Rowed>> {
+        None
+    }
+
+    fn table_dump_read(&self, subtype: u16, body: &[u8]) -> Option<Answer<TableDump>> {
+        None
+    }
+
+    fn table_dump_write(&self, out: &mut [u8], dump: &NewDump) -> Option<Answer<usize>> {
         None
     }
 
@@ -228,6 +236,14 @@ impl Subject for Reading {
         rows: &NewRows,
     ) -> Option<Answer<Rowed>> {
         Some(reading::push_rows(buffer, subtype, builder, rows))
+    }
+
+    fn table_dump_read(&self, subtype: u16, body: &[u8]) -> Option<Answer<TableDump>> {
+        Some(reading::read_table_dump(subtype, body))
+    }
+
+    fn table_dump_write(&self, out: &mut [u8], dump: &NewDump) -> Option<Answer<usize>> {
+        Some(reading::write_table_dump(out, dump))
     }
 
     fn candidate(&self, stream: &[u8], at: usize) -> Option<Answer<Candidate>> {

@@ -1,6 +1,6 @@
 //! Questions and replies as text: octets in hex, all other numbers decimal.
 
-use crate::answers::{NewEntry, Peer};
+use crate::answers::{NewDump, NewEntry, Peer};
 use crate::question::{Question, Reply};
 
 /// Longer inputs are shown by their first octets.
@@ -52,7 +52,7 @@ pub fn settings(question: &Question) -> String {
         | Question::Judge { at, .. }
         | Question::Candidate { at, .. } => format!("at {at}"),
         Question::BodyCheck { kind, subtype, stored, .. } => format!("type {kind}, subtype {subtype}, stored {stored}"),
-        Question::RibRead { subtype, .. } => format!("subtype {subtype}"),
+        Question::RibRead { subtype, .. } | Question::TableDumpRead { subtype, .. } => format!("subtype {subtype}"),
         Question::RibEntry { subtype, timestamp, index, .. } => {
             format!("subtype {subtype}, timestamp {timestamp}, entry {index}")
         }
@@ -81,6 +81,9 @@ fn table_settings(question: &Question) -> String {
         }
         Question::HeaderWrite { room, header } => format!("room {}, {header:?}", room.len()),
         Question::RibBegin { room, head } => format!("room {}, {head:?}", room.len()),
+        Question::TableDumpWrite { room, dump: NewDump { subtype, route, attributes } } => {
+            format!("room {}, subtype {subtype}, {route:?}, attributes {}", room.len(), octets(attributes))
+        }
         Question::RibAdd { buffer, length, subtype, entry } => {
             format!("subtype {subtype}, length {length} of {}, {}", buffer.len(), new_entry(entry))
         }

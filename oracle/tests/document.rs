@@ -83,6 +83,38 @@ fn state_changes_on_both_sides() {
 }
 
 #[test]
+fn table_dumps_on_both_sides() {
+    for subject in BOTH {
+        let judged = |subtype, body: &[u8]| refusal(subject, &make::record(12, subtype, body));
+        for (subtype, most, shortest) in [(1, 32, 22), (2, 128, 46)] {
+            let bits = |bits| judged(subtype, &make::table_dump(subtype, bits, &[]));
+            assert_eq!((bits(most), bits(most + 1)), (0, 7));
+            let zeros = |length| judged(subtype, &vec![0; length]);
+            assert_eq!((zeros(shortest - 1), zeros(shortest), zeros(shortest + 1)), (7, 0, 7));
+        }
+        let body = make::table_dump(1, 24, &[]);
+        assert_eq!([0, 1, 2, 3, 65_535].map(|subtype| judged(subtype, &body)), [6, 0, 7, 6, 6]);
+        let cut = make::record(12, 3, &body);
+        assert_eq!((refusal(subject, &cut[..cut.len() - 1]), refusal(subject, &cut)), (4, 6));
+    }
+}
+
+#[test]
+fn table_dumps_are_walked_and_confirm_but_no_scan_stops_there() {
+    let dump = make::record(12, 1, &make::table_dump(1, 24, &[7]));
+    let wide = make::record(12, 2, &make::table_dump(2, 64, &[]));
+    let refused = make::record(12, 1, &make::table_dump(1, 33, &[]));
+    for subject in BOTH {
+        let lines = |stream: &[u8]| walk(subject, stream, 1 << 20, 2).iter().map(Event::line).collect::<Vec<_>>();
+        let own_end = [&refused[..], &dump, &wide].concat();
+        assert_eq!(lines(&own_end), ["G\t0\t34\t7\t4\t2", "R\t34\t69\t12\t1", "R\t69\t127\t12\t2", "E\t127"]);
+        let torn = [&[255; 5][..], &dump, &wide].concat();
+        assert_eq!(lines(&torn), ["G\t0\t98\t2\t5\t0", "E\t98"]);
+        assert!(!subject.candidate(&dump, 0).expect("every subject tests candidates").value.stands);
+    }
+}
+
+#[test]
 fn microseconds_of_a_candidate() {
     for subject in BOTH {
         for (micros, stands) in [(999_999, true), (1_000_000, false)] {

@@ -1,10 +1,10 @@
 //! routes FILE..: who has how many routes in MRT dumps, and what of them could not be read.
 //!
-//! For each file: the routes of each peer, by the RIB records and their peer table; the BGP4MP records of each peer; the
-//! records by kind; every gap with its reason; and a total. Status 0 means that every file was read to its end, 1 that one was
-//! not, 2 that no file was named.
+//! For each file: the routes of each peer, by the RIB records and their peer table, or by the TABLE_DUMP records; the BGP4MP
+//! records of each peer; the records by kind; every gap with its reason; and a total. Status 0 means that every file was read to
+//! its end, 1 that one was not, 2 that no file was named.
 
-use mrt::{Exhausted, Frame, Gap, Item, Peer, PeerTable, Record, Refusal, Rib, Walk};
+use mrt::{Exhausted, Frame, Gap, Item, Peer, PeerTable, Record, Refusal, Rib, TableDump, Walk};
 use std::collections::BTreeMap;
 use std::ffi::{OsStr, OsString};
 use std::io::{self, BufWriter, ErrorKind, IsTerminal, Write};
@@ -137,6 +137,8 @@ impl Report {
             PeerTable::load(record.body, &mut self.peers).expect("the record was checked, and each peer has a slot");
         } else if let Some(rib) = record.rib() {
             self.take_routes(&rib);
+        } else if let Some(dump) = record.table_dump() {
+            self.take_route(&dump);
         } else if let Some(who) = neighbour(record) {
             *self.messages.entry(who).or_default() += 1;
         }
@@ -150,6 +152,12 @@ impl Report {
             let who = peer.map_or(Who::Index(entry.peer), |peer| Who::Peer(peer.address(), peer.asn));
             *self.routes.entry(who).or_default() += 1;
         }
+    }
+
+    /// A TABLE_DUMP record has its peer with it.
+    fn take_route(&mut self, dump: &TableDump<'_>) {
+        self.total.routes += 1;
+        *self.routes.entry(Who::Peer(dump.peer_address(), dump.asn.into())).or_default() += 1;
     }
 
     fn take_gap(&mut self, stream: &[u8], gap: Gap) {

@@ -4,7 +4,7 @@
 //! written is aligned and overlaps no other that is lent, and nothing else is asked. Rust's slices and borrows have all of
 //! that, empty ones too. No call keeps a pointer. `tests/boundary.rs` holds the declarations to the library's source.
 
-use crate::{Entry, Peer, Refusal};
+use crate::{Entry, NewTableDump, Peer, Refusal};
 
 /// The library is for processors of 64 bits, so no offset that it answers is cut where it becomes a `usize`.
 const _: () = assert!(usize::BITS == 64);
@@ -168,6 +168,34 @@ unsafe extern "C" {
         attributes: *const u8,
         attributes_len: usize,
     ) -> Handed;
+    fn mrt_read_table_dump(
+        body: *const u8,
+        body_len: usize,
+        subtype: u16,
+        out: *mut u64,
+        out_len: usize,
+        prefix: *mut u8,
+        prefix_len: usize,
+        peer: *mut u8,
+        peer_len: usize,
+    ) -> u32;
+    fn mrt_write_table_dump(
+        out: *mut u8,
+        out_len: usize,
+        subtype: u16,
+        view: u16,
+        sequence: u16,
+        prefix: *const u8,
+        prefix_len: usize,
+        bits: u8,
+        status: u8,
+        originated: u32,
+        peer: *const u8,
+        peer_len: usize,
+        asn: u32,
+        attributes: *const u8,
+        attributes_len: usize,
+    ) -> Written;
 }
 
 /// The values that a call leaves in its places, or its refusal. There are places for all, so 9 for want of them never comes.
@@ -404,4 +432,54 @@ pub(crate) fn push_entries(
         )
     };
     handed.count as usize
+}
+
+/// View, sequence, prefix bits, status, originated time, AS, where the attributes start, where they end; and the prefix and the
+/// peer's address.
+pub(crate) fn read_table_dump(body: &[u8], subtype: u16) -> Result<([u64; 8], [[u8; 16]; 2]), Refusal> {
+    let (mut prefix, mut peer) = ([0; 16], [0; 16]);
+    let (octets, octets_len) = (prefix.as_mut_ptr(), prefix.len());
+    let (address, address_len) = (peer.as_mut_ptr(), peer.len());
+    let fields = values(|out| {
+        let (places, places_len) = (out.as_mut_ptr(), out.len());
+        // SAFETY: each slice is lent with its own length, and the three that are written are different arrays.
+        unsafe {
+            mrt_read_table_dump(
+                body.as_ptr(),
+                body.len(),
+                subtype,
+                places,
+                places_len,
+                octets,
+                octets_len,
+                address,
+                address_len,
+            )
+        }
+    })?;
+    Ok((fields, [prefix, peer]))
+}
+
+pub(crate) fn write_table_dump(out: &mut [u8], dump: &NewTableDump<'_>) -> Result<usize, Refusal> {
+    let NewTableDump { subtype, view, sequence, prefix, status, originated, peer, asn, attributes } = *dump;
+    // SAFETY: each slice is lent with its own length.
+    written(unsafe {
+        mrt_write_table_dump(
+            out.as_mut_ptr(),
+            out.len(),
+            subtype,
+            view,
+            sequence,
+            prefix.octets.as_ptr(),
+            prefix.octets.len(),
+            prefix.bits,
+            status,
+            originated,
+            peer.as_ptr(),
+            peer.len(),
+            asn,
+            attributes.as_ptr(),
+            attributes.len(),
+        )
+    })
 }

@@ -14,7 +14,7 @@ use core::fmt;
 ///
 /// assert_eq!(check_body(&[0; 8], 13, 1, StoredLength(8)), Ok(()));
 /// assert_eq!(check_body(&[0; 7], 13, 1, StoredLength(7)), Err(Refusal::BodyNotMet));
-/// assert_eq!(check_body(&[0; 8], 12, 1, StoredLength(8)), Err(Refusal::NotCarried));
+/// assert_eq!(check_body(&[0; 8], 11, 1, StoredLength(8)), Err(Refusal::NotCarried));
 /// assert_eq!(check_body(&[0; 8], 14, 1, StoredLength(8)), Err(Refusal::UnknownType));
 /// ```
 pub fn check_body(body: &[u8], kind: u16, subtype: u16, stored: StoredLength) -> Result<(), Refusal> {

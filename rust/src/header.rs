@@ -1,6 +1,6 @@
 //! The common header, and the record that it frames.
 
-use crate::{PeerIndex, Refusal, Rib, boundary, part};
+use crate::{PeerIndex, Refusal, Rib, TableDump, boundary, part};
 
 /// A length as the header has it on the wire. For type 17 it counts the four octets of microseconds.
 #[derive(Debug, Clone, Copy, PartialEq, Eq, PartialOrd, Ord, Hash)]
@@ -16,7 +16,7 @@ pub struct StoredLength(pub u32);
 pub struct Header {
     /// Seconds since 1970.
     pub timestamp: u32,
-    /// The type. 5, 13, 16 and 17 are carried.
+    /// The type. 5, 12, 13, 16 and 17 are carried.
     pub kind: u16,
     /// The subtype, whose meaning depends on the type.
     pub subtype: u16,
@@ -201,6 +201,14 @@ impl<'a> Record<'a> {
     pub fn rib(&self) -> Option<Rib<'a>> {
         match self.header.kind {
             13 => Rib::read(self.body, self.header.subtype).ok(),
+            _ => None,
+        }
+    }
+
+    /// The body of a TABLE_DUMP record (type 12, subtypes 1 and 2), or `None` for any other record.
+    pub fn table_dump(&self) -> Option<TableDump<'a>> {
+        match self.header.kind {
+            12 => TableDump::read(self.body, self.header.subtype).ok(),
             _ => None,
         }
     }

@@ -1,9 +1,9 @@
 //! MRT dumps (RFC 6396, RFC 8050), whole or torn: a safe interface to `libmrt.a`.
 //!
-//! The library frames records, reads and writes peer tables and RIB bodies with their attributes opaque, and walks a damaged
-//! stream so that every octet is accounted for, once, as part of a record or of a gap. Each of its calls is proved safe,
-//! ending, and equal to a short definition, for every input. This crate is the thin layer that gives them Rust's types; it is
-//! tested, not proved.
+//! The library frames records, reads and writes peer tables, RIB bodies and TABLE_DUMP bodies with their attributes opaque, and
+//! walks a damaged stream so that every octet is accounted for, once, as part of a record or of a gap. Each of its calls is
+//! proved safe, ending, and equal to a short definition, for every input. This crate is the thin layer that gives them Rust's
+//! types; it is tested, not proved.
 //!
 //! ```
 //! use mrt::{Item, Walk};
@@ -29,7 +29,9 @@
 //!
 //! - [`Walk`] goes through a stream: [`Record`]s and [`Gap`]s, each once and in order.
 //! - [`Record::peer_index`] and [`PeerTable`]: who the peers are. [`Record::rib`] and [`Entries`]: their routes.
-//! - [`NewHeader`], [`PeerTable::write`] and [`RibBuilder`] write; [`RibBuilder::extend_from`] writes many routes at a time.
+//! - [`Record::table_dump`]: a route and its peer, in the older TABLE_DUMP.
+//! - [`NewHeader`], [`PeerTable::write`], [`RibBuilder`] and [`NewTableDump`] write; [`RibBuilder::extend_from`] writes many
+//!   routes at a time.
 //! - [`Header`], [`Frame`], [`check_body`] and [`Candidate`] are the parts that a walk is made of.
 //!
 //! # Refusals
@@ -58,6 +60,7 @@ mod refusal;
 mod rib;
 mod rib_write;
 mod rows;
+mod table_dump;
 mod walk;
 
 pub use check::{Candidate, Evidence, Family, check_body};
@@ -66,6 +69,7 @@ pub use peers::{Added, Peer, PeerIndex, PeerTable};
 pub use refusal::Refusal;
 pub use rib::{Entries, Entry, Prefix, Rib};
 pub use rib_write::{RibBuilder, add_entry};
+pub use table_dump::{NewTableDump, TableDump};
 pub use walk::{Exhausted, Gap, Item, Options, Walk};
 
 /// The examples of the README, run as tests.

@@ -26,7 +26,7 @@ pub enum Refusal {
     ShortLength = 3,
     /// 4: the body runs past the stream.
     TruncatedBody = 4,
-    /// 5: a known type that is not 5, 13, 16 or 17.
+    /// 5: a known type that is not 5, 12, 13, 16 or 17.
     NotCarried = 5,
     /// 6: the subtype is not carried.
     OtherSubtype = 6,

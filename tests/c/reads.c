@@ -139,7 +139,7 @@ static void judgements(void) {
     answers("candidate", candidate, &g, 0, stands, 4);
     g.at = 32;
     answers("judge 7", judge, &g, 7, first, 9);
-    answers("candidate, a table dump", candidate, &g, 0, fails, 4);
+    answers("candidate, a peer table", candidate, &g, 0, fails, 4);
     g.at = 51;
     answers("judge, the last", judge, &g, 0, last, 9);
     answers("candidate, the last", candidate, &g, 0, stands_last, 4);
@@ -320,7 +320,7 @@ static void bodies(void) {
         {5, 1, 15, 7},          {5, 1, 16, 0},     {5, 1, 65535, 0}, {5, 1, 65536, 7},  {5, 3, 10, 0},       {5, 3, 9, 7},
         {5, 5, 4089, 0},        {5, 5, 4090, 7},   {5, 6, 14, 0},    {5, 7, 12, 0},     {5, 7, UINT32_MAX, 7}, {5, 0, 10, 6},
         {5, UINT16_MAX, 10, 6}, {13, 1, 0, 7},     {13, 2, 0, 7},    {13, 6, 0, 6},     {13, UINT16_MAX, 0, 6}, {16, 0, 0, 7},
-        {16, 2, 0, 6},          {17, 11, 0, 7},    {17, 12, 0, 6},   {0, 0, 0, 5},      {12, 0, 0, 5},       {14, 0, 0, 2},
+        {16, 2, 0, 6},          {17, 11, 0, 7},    {17, 12, 0, 6},   {0, 0, 0, 5},      {11, 1, 0, 5},       {14, 0, 0, 2},
         {15, 1, 16, 2},         {18, 0, 0, 2},     {33, 0, 0, 5},    {34, 0, 0, 2},     {49, 0, 0, 5},       {50, 0, 0, 2},
         {UINT16_MAX, UINT16_MAX, UINT32_MAX, 2},
     };

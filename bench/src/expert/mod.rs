@@ -1,6 +1,7 @@
 //! The same calls in plain Rust over the slice, as one writes them for speed: no allocation, no copy, each length tested
 //! once, everything open to the optimizer.
 
+pub mod dump;
 pub mod peers;
 pub mod record;
 pub mod rib;

@@ -1,6 +1,6 @@
 //! One record: its header, its frame and its body check.
 
-use super::{be16, be32, peers, rib};
+use super::{be16, be32, dump, peers, rib};
 use mrt_oracle::answers::Header;
 
 /// Bit k is set where type k is known: 0 to 13, 16, 17, 32, 33, 48, 49.
@@ -9,6 +9,7 @@ const KNOWN: u64 = 0x0003_0003_0003_3fff;
 const AS_SIZES: [u8; 12] = [2, 2, 0, 0, 4, 4, 2, 4, 2, 4, 2, 4];
 
 pub const LEGACY: u16 = 5;
+const TABLE_DUMP: u16 = 12;
 const TABLE_DUMP_V2: u16 = 13;
 pub const BGP4MP: u16 = 16;
 pub const BGP4MP_ET: u16 = 17;
@@ -82,6 +83,10 @@ pub fn check(kind: u16, subtype: u16, body: &[u8]) -> u8 {
         TABLE_DUMP_V2 if subtype == 1 => met(peers::head(body).is_some()),
         TABLE_DUMP_V2 => match rib::layout(subtype) {
             Some(layout) => met(rib::head(layout, body).is_some()),
+            None => 6,
+        },
+        TABLE_DUMP => match dump::address_size(subtype) {
+            Some(size) => met(dump::is_met(size, body)),
             None => 6,
         },
         LEGACY => match legacy_bounds(subtype) {

@@ -1,6 +1,7 @@
 //! The same calls behind a wall like the library's: none is compiled into its caller, and each hands its values out in places
 //! that the caller lends. What they lose against the calls without the wall, a library in C's manner loses.
 
+use super::dump;
 use super::record::{judge, Verdict};
 use super::rib::{Builder, Entries};
 use super::walk::{Answer, Walk};
@@ -106,6 +107,18 @@ pub fn push_entry(out: &mut [u8], subtype: u16, state: &mut [u64; 3], entry: &Ne
         Err(refusal) => u32::from(refusal),
         Ok(()) => {
             *state = builder.state();
+            0
+        }
+    }
+}
+
+/// A TABLE_DUMP body: 0, or the refusal.
+#[inline(never)]
+pub fn read_table_dump(body: &[u8], subtype: u16, out: &mut [u64; 8], [prefix, peer]: &mut [[u8; 16]; 2]) -> u32 {
+    match dump::read(subtype, body) {
+        Err(refusal) => u32::from(refusal),
+        Ok(read) => {
+            (*out, *prefix, *peer) = (dump::values(&read), read.route.prefix, read.route.peer);
             0
         }
     }

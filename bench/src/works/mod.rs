@@ -1,5 +1,6 @@
 //! The works, each set out for the three sides.
 
+pub mod dumps;
 pub mod peers;
 pub mod ribs;
 pub mod walks;

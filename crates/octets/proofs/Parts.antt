@@ -1,14 +1,14 @@
 -- Parts of octets: of a list, and as they are lent and come back.
-use Prim.Native.Nat.{ℕ, zero, suc, _+_, _-_, _≤_}
+use Prim.Native.Nat.{ℕ, zero, suc, _+_, _-_, _<_, _≤_}
 use mathlib.Core.Path.{_≡_, refl, sym, _∙_, ap}
-use mathlib.Core.List.{List, [], _++_, append-assoc, append-nil}
+use mathlib.Core.List.{List, [], _∷_, _++_, append-assoc, append-nil}
 use mathlib.Core.Bool.{Bool, true, false}
 use native.Mathlib.Nat.{add-zero, le-of-eq}
 use native.Mathlib.Omega.{arith}
 use borrow.Author.Tests.{leb-true, leb-false, le-leb, lt-leb}
 use lib.Dec.{leb}
-use lib.ListN.{length, take, drop, length-take, length-drop, take-append-drop, drop-of-length-le, replicate}
-use lib.Seq.{take-all, length-take-le, take-add, drop-append-le, drop-drop}
+use lib.ListN.{length, getD, take, drop, length-take, length-drop, take-append-drop, drop-of-length-le, replicate}
+use lib.Seq.{drop-cons, getD-take, getD-drop, take-all, length-take-le, take-add, drop-append-le, drop-drop}
 use Rattle.octets.specs.Octets.{beAt, bytesOf, patch, part, Octets}
 use Rattle.octets.proofs.Numbers.{be-drop, be-take, bytes-of-be}
 use Rattle.octets.proofs.Stores.{stores, patch-front, patch-over, patch-part, patch-within, length-patch}
@@ -19,6 +19,10 @@ length-part s at n h = simp (length-take, length-drop) (omega arith)
 -- the part that is lent from at on is what is left
 pub part-rest : (s : List ℕ) (at : ℕ) → part s at (length s - at) ≡ drop at s
 part-rest s at = take-all (length s - at) (drop at s) (le-of-eq (length-drop at s))
+
+-- a part of one octet
+pub part-one : (s : List ℕ) (at : ℕ) → at < length s → getD s at 0 ∷ [] ≡ part s at 1
+part-one s at h = rw (drop-cons s at 0 h)
 
 -- a part and the part straight after it
 pub part-join : (s : List ℕ) (at n m : ℕ) → part s at n ++ part s (at + n) m ≡ part s at (n + m)
@@ -31,6 +35,10 @@ room-rest n at m h = by-test (leb at (n - m)) refl
     by-test : (t : Bool) → leb at (n - m) ≡ t → t ≡ leb (at + m) n
     by-test true e = let l = leb-true at (n - m) e in sym (le-leb (at + m) n (omega arith))
     by-test false e = let l = leb-false at (n - m) e in sym (lt-leb (at + m) n (omega arith))
+
+-- an octet of a part is that of the whole
+pub octet-part : (s : List ℕ) (at n i : ℕ) → i < n → getD (part s at n) i 0 ≡ getD s (at + i) 0
+octet-part s at n i h = getD-take n (drop at s) i 0 h ∙ getD-drop at s i 0
 
 -- a number of a part is that of the whole
 pub be-part : (s : List ℕ) (at n i w : ℕ) → i + w ≤ n → beAt (part s at n) i w ≡ beAt s (at + i) w

@@ -1,4 +1,5 @@
 // One question: its octets, the call, and whether the answer is the expected one.
+use crate::dumps;
 use crate::headers;
 use crate::peers;
 use crate::put::part;
@@ -54,6 +55,8 @@ fn answer(call: u8, a: &[u8], b: &[u8], x: &[u8], out: &mut [u8]) -> usize {
         17 => ribs::push(a, b, x, out),
         18 => walks::step(a, x, out),
         19 => walks::whole(a, x, out),
+        20 => dumps::read(a, x, out),
+        21 => dumps::write(a, b, x, out),
         _ => usize::MAX,
     }
 }

@@ -1,5 +1,6 @@
 // Puts every question of the lists that the arguments name, and holds each answer to the oracle's.
 mod ask;
+mod dumps;
 mod headers;
 mod peers;
 mod put;

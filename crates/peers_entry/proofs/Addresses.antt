@@ -1,90 +1,18 @@
--- Octets of an address: copied, read into sixteen, and compared.
-use Prim.Native.Nat.{ℕ, zero, suc, _+_, _-_, _*_, _<_, _≤_}
+-- Addresses compared, four octets as one number.
+use Prim.Native.Nat.{ℕ, zero, suc, _+_, _*_, _<_}
 use mathlib.Core.Path.{_≡_, refl, sym, _∙_, ap}
-use mathlib.Core.List.{List, [], _∷_, _++_, append-assoc, append-nil}
+use mathlib.Core.List.{List}
 use mathlib.Core.Bool.{Bool, true, false, _&&_, and-true, and-false, and-assoc}
-use native.Mathlib.Nat.{add-zero, add-suc, add-assoc}
-use native.Mathlib.Numerals.{add-one}
+use native.Mathlib.Nat.{add-zero, add-suc}
 use native.Mathlib.Omega.{arith}
 use borrow.Author.Tests.{eq-eqb, ne-eqb, eqb-true, eqb-false}
-use lib.ListN.{length, getD, take, drop, replicate, length-append, length-drop}
-use lib.Seq.{take-suc, take-at, drop-at, getD-drop}
+use lib.ListN.{getD}
 use lib.Dec.{eqb}
-use Rattle.octets.specs.Octets.{beAt, bytesOf, patch, part, Octets}
-use Rattle.octets.proofs.Numbers.{be-halves, be-one, be-same, bytes-of-be}
-use Rattle.octets.proofs.Stores.{patch-front, stores}
-use Rattle.octets.proofs.Parts.{be-front, drop-replicate}
-use Rattle.peers_entry.specs.Peer.{addressSize, octetsAt, addressAt, sameOctets, lowFirst}
-use Rattle.peers_entry.proofs.Sizes.{address-either, address-le}
+use Rattle.octets.specs.Octets.{beAt, Octets}
+use Rattle.octets.proofs.Numbers.{be-halves, be-one, be-same}
+use Rattle.peers_entry.specs.Peer.{addressSize, sameOctets, lowFirst}
+use Rattle.peers_entry.proofs.Sizes.{address-either}
 
-pub length-octets : (s : List ℕ) (at n : ℕ) → length (octetsAt s at n) ≡ n
-unfolding octetsAt
-length-octets s at zero = refl
-length-octets s at (suc n) = length-append (octetsAt s at n) (getD s (at + n) 0 ∷ []) ∙ ap (λ (k : ℕ). k + 1) (length-octets s at n)
-    ∙ add-one n
-
-pub octets-part : (s : List ℕ) (at n : ℕ) → at + n ≤ length s → octetsAt s at n ≡ part s at n
-unfolding octetsAt
-octets-part s at zero h = refl
-octets-part s at (suc n) h =
-    let e : octetsAt s at n ≡ part s at n = octets-part s at n (omega arith) in
-    let l : n < length (drop at s) = simp length-drop (omega arith) in
-    rw (e, ← getD-drop at s n 0) (sym (take-suc (drop at s) n 0 l))
-
--- octets between others
-pub octets-between : (p x q : List ℕ) (n m : ℕ) → length p ≡ n → length x ≡ m → octetsAt (p ++ x ++ q) n m ≡ x
-octets-between p x q n m e f =
-    let l : n + m ≤ length (p ++ x ++ q) = (let a = length-append (p ++ x) q in let b = length-append p x in omega arith) in
-    let d : drop n (p ++ x ++ q) ≡ x ++ q = ap (drop n) (append-assoc p x q) ∙ drop-at p (x ++ q) n e in
-    octets-part (p ++ x ++ q) n m l ∙ ap (take m) d ∙ take-at x q m f
-
-octets-join : (s : List ℕ) (at n m : ℕ) → octetsAt s at n ++ octetsAt s (at + n) m ≡ octetsAt s at (n + m)
-unfolding octetsAt
-octets-join s at n zero = rw (add-zero, append-nil)
-octets-join s at n (suc m) = rw (add-suc, ← octets-join s at n m, ← append-assoc, add-assoc at n m)
-
--- ---- copying: four octets as one number
-pub four-stored : (s l : List ℕ) (to at : ℕ) {t : List ℕ} {v : ℕ} → Octets l → at + 4 ≤ length l
-    → v ≡ beAt (part l at (at + 4 - at)) 0 4
-    → t ≡ patch s to (bytesOf 4 v)
-    → t ≡ patch s to (octetsAt l at 4)
-four-stored s l to at {t} {v} o k e f =
-    let b : beAt (part l at (at + 4 - at)) 0 4 ≡ beAt l at 4 = be-front l at (at + 4) 4 (omega arith) in
-    f ∙ ap (patch s to) (ap (bytesOf 4) (e ∙ b) ∙ bytes-of-be l at 4 o k ∙ sym (octets-part l at 4 k))
-
--- s has n octets of an address at to, and then the m after them
-stored-join : (s l : List ℕ) (to at n m : ℕ) {t u : List ℕ} → t ≡ patch s to (octetsAt l at n)
-    → u ≡ patch t (to + n) (octetsAt l (at + n) m)
-    → u ≡ patch s to (octetsAt l at (n + m))
-stored-join s l to at n m e f = stores s to n (octetsAt l at n) (octetsAt l (at + n) m) (length-octets l at n) e f
-    ∙ ap (patch s to) (octets-join l at n m)
-
-module _ (s l : List ℕ) (to at kind : ℕ) {w : ℕ} {t : List ℕ} (sized : w ≡ addressSize kind)
-    (first : t ≡ patch s to (octetsAt l at 4)) where
-  pub short-stored : w ≡ 4 → t ≡ patch s to (octetsAt l at (addressSize kind))
-  short-stored e = first ∙ ap (λ (n : ℕ). patch s to (octetsAt l at n)) (sym e ∙ sized)
-
-  pub long-stored : {u v x : List ℕ} → (w ≡ 4 → ⊥) → u ≡ patch t (to + 4) (octetsAt l (at + 4) 4)
-      → v ≡ patch u (to + 8) (octetsAt l (at + 8) 4)
-      → x ≡ patch v (to + 12) (octetsAt l (at + 12) 4) → x ≡ patch s to (octetsAt l at (addressSize kind))
-  long-stored e f g h =
-      let k : addressSize kind ≡ 16 = address-either kind (λ z. e (sized ∙ z)) in
-      stored-join s l to at 12 4 (stored-join s l to at 8 4 (stored-join s l to at 4 4 first f) g) h
-      ∙ ap (λ (n : ℕ). patch s to (octetsAt l at n)) (sym k)
-
--- an address in the first of sixteen zeros
-pub address-read : (s : List ℕ) (at kind : ℕ) {t : List ℕ} → t ≡ patch (replicate 16 0) 0 (octetsAt s at (addressSize kind))
-    → t ≡ addressAt s at (addressSize kind)
-unfolding addressAt
-address-read s at kind e =
-    let n : ℕ = addressSize kind in
-    let x : List ℕ = octetsAt s at n in
-    let l : length x ≡ n = length-octets s at n in
-    let h : length x ≤ 16 = (let k : n ≤ 16 = address-le kind in omega arith) in
-    e ∙ patch-front (replicate 16 0) x h
-    ∙ ap (λ (r : List ℕ). x ++ r) (drop-replicate (length x) 16 0 ∙ ap (λ (k : ℕ). replicate (16 - k) 0) l)
-
--- ---- comparing: four octets as one number
 -- the first octet highest
 high : (s : List ℕ) (at : ℕ) → ((getD s at 0 * 256 + getD s (at + 1) 0) * 256 + getD s (at + 2) 0) * 256 + getD s (at + 3) 0 ≡ beAt s at 4
 high s at =

@@ -10,14 +10,15 @@ use lib.Dec.{eqb}
 use lib.ListN.{length, getD, length-append}
 use Rattle.octets.specs.Octets.{beAt, bytesOf, patch, part}
 use Rattle.octets.proofs.Numbers.{be-halves, bytes-halves, length-bytes}
-use Rattle.octets.proofs.Stores.{patch-over, stores}
+use Rattle.octets.proofs.Stores.{patch-over, stores, length-patch}
 use Rattle.octets.proofs.Parts.{be-front}
-use Rattle.peers_entry.specs.Peer.{wide, addressSize, asSize, peerSize, octetsAt, addressAt, peerAt, unread, readPeer}
+use Rattle.octets_address.specs.Address.{octetsAt, addressIn, putAddress}
+use Rattle.octets_address.proofs.Addresses.{length-octets, address-fits, put-fits}
+use Rattle.peers_entry.specs.Peer.{wide, addressSize, asSize, peerSize, peerAt, unread, readPeer}
 use Rattle.peers_entry.specs.Peer.{stored, keyOf, sameOctets}
 use Rattle.peers_entry.specs.Peer.{sameAddress, peerOctets, putPeer}
 use Rattle.peers_entry.specs.declared.Peer.{Peer}
-use Rattle.peers_entry.proofs.Sizes.{as-either}
-use Rattle.peers_entry.proofs.Addresses.{length-octets}
+use Rattle.peers_entry.proofs.Sizes.{as-either, address-le, size-is}
 
 -- ---- the AS
 -- its first two octets and its last two, each lent as a part
@@ -84,7 +85,7 @@ module _ (s : List ℕ) (at : ℕ) where
         let m : length s < at + peerSize (getD s at 0) = omega arith in
         simp (le-ltb _ _ inside, lt-leb _ _ m)
 
-    pub read-whole : {a id asn : ℕ} {l : List ℕ} → z ≤ length s - at → a ≡ addressSize k → l ≡ addressAt s (at + 5) (addressSize k)
+    pub read-whole : {a id asn : ℕ} {l : List ℕ} → z ≤ length s - at → a ≡ addressSize k → l ≡ addressIn s (at + 5) (addressSize k)
         → id ≡ beAt (part s (at + 1) (at + 5 - (at + 1))) 0 4
         → asn ≡ beAt s (at + 5 + a) (asSize k)
         → record { number = 0; peer = record { kind = k; id = id; addr = l; asn = asn }; next = at + z } ≡ readPeer s at
@@ -92,13 +93,15 @@ module _ (s : List ℕ) (at : ℕ) where
     read-whole fits ha hl hi hn =
         let e : z ≡ peerSize (getD s at 0) = size-of ∙ ap peerSize kind-is in
         let m : at + peerSize (getD s at 0) ≤ length s = omega arith in
-        rw (hn, hi ∙ be-front s (at + 1) (at + 5) 4 (omega arith), hl, ha, size-of, kind-is) (simp (le-ltb _ _ inside, le-leb _ _ m))
+        let there = address-fits s (at + 5) (addressSize k) (omega (arith, size-is k)) in
+        rw (hn, hi ∙ be-front s (at + 1) (at + 5) 4 (omega arith), hl ∙ there, ha, size-of, kind-is)
+        (simp (le-ltb _ _ inside, le-leb _ _ m))
 
 -- ---- the peer as it is stored
-pub store-is : (p : Peer) {l : List ℕ} → l ≡ addressAt (p .addr) 0 (addressSize (p .kind))
+pub store-is : (p : Peer) {l : List ℕ} → 16 ≡ length (p .addr) → l ≡ addressIn (p .addr) 0 (addressSize (p .kind))
     → record { kind = p .kind; id = p .id; addr = l; asn = p .asn } ≡ stored p
 unfolding stored
-store-is p l = rw l
+store-is p h e = rw (e ∙ address-fits (p .addr) 0 (addressSize (p .kind)) (omega (arith, address-le (p .kind))))
 
 -- ---- one address or two
 module _ (p key : Peer) {r : Bool} (e : r ≡ sameOctets (addressSize (key .kind)) (p .addr) (key .addr)) where
@@ -125,7 +128,7 @@ module _ (s : List ℕ) (at : ℕ) (p : Peer) where
 
     pub put-whole : {a : ℕ} {t u v w : List ℕ} → z ≤ length s → at ≤ length s - z → a ≡ addressSize (p .kind) → t ≡ patch s at (p .kind
         ∷ []) → u ≡ patch t (at + 1) (bytesOf 4 (p .id))
-        → v ≡ patch u (at + 5) (octetsAt (p .addr) 0 (addressSize (p .kind)))
+        → v ≡ putAddress u (at + 5) (p .addr) (addressSize (p .kind))
         → w ≡ patch v (at + 5 + a) (bytesOf (asSize (p .kind)) (p .asn))
         → (w, at + z) ≡ putPeer s at p
     unfolding putPeer peerOctets
@@ -135,7 +138,11 @@ module _ (s : List ℕ) (at : ℕ) (p : Peer) where
         let address : List ℕ = octetsAt (p .addr) 0 a in
         let first : u ≡ patch s at (kinds ++ ids) = stores s at 1 kinds ids refl ht hu in
         let five : length (kinds ++ ids) ≡ 5 = length-append kinds ids ∙ ap (λ (n : ℕ). 1 + n) (length-bytes 4 (p .id)) in
-        let there : v ≡ patch u (at + 5) address = hv ∙ ap (λ (n : ℕ). patch u (at + 5) (octetsAt (p .addr) 0 n)) (sym ha) in
+        let fits : at + 5 + addressSize (p .kind) ≤ length u =
+        (let n = ap length first ∙ length-patch s at (kinds ++ ids) in omega (arith, size-is (p .kind))) in
+        let there : v ≡ patch u (at + 5) address =
+        hv ∙ put-fits u (at + 5) (p .addr) (addressSize (p .kind)) fits
+        ∙ ap (λ (n : ℕ). patch u (at + 5) (octetsAt (p .addr) 0 n)) (sym ha) in
         let then : v ≡ patch s at (kinds ++ ids ++ address) = stores s at 5 (kinds ++ ids) address five first there in
         let more : length (kinds ++ ids ++ address) ≡ 5 + a = length-append (kinds ++ ids) address
         ∙ (let o : length address ≡ a = length-octets (p .addr) 0 a in omega arith) in

@@ -8,6 +8,7 @@ use native.Mathlib.Omega.{arith}
 use borrow.Author.Tests.{eq-eqb, eqb-true, eqb-false}
 use lib.ListN.{getD}
 use lib.Dec.{eqb}
+use Rattle.octets_address.specs.Address.{sizeOf}
 use Rattle.peers_entry.specs.Peer.{addressSize, stored, keyOf, sameOctets, sameAddress}
 use Rattle.peers_entry.specs.declared.Peer.{Peer}
 use Rattle.peers_entry.proofs.Stored.{stored-octet}
@@ -42,7 +43,7 @@ pub record HasAddress (p : Peer) (family : ℕ) (octets : List ℕ) : Type 0 whe
 
 -- THEOREM. Two peers have the same address exactly where the one has the family and the octets of the other.
 pub same-plainly : (p key : Peer) → (sameAddress p key ≡ true) ↔ HasAddress p (key .kind % 2) (key .addr)
-unfolding sameAddress addressSize
+unfolding sameAddress addressSize sizeOf
 same-plainly p key = (
   λ t. let b = and-eq-true-iff (eqb (p .kind % 2) (key .kind % 2)) (sameOctets (addressSize (key .kind)) (p .addr) (key .addr)) .0 t in
       record { kind = eqb-true _ _ (b .0); octet = octets-alike (addressSize (key .kind)) (p .addr) (key .addr) .0 (b .1) },
@@ -81,7 +82,7 @@ same-self p = same-plainly p p .1 (record { kind = refl; octet = λ i h. refl })
 -- a peer has its address after it is stored, and no other
 module _ (p : Peer) (family : ℕ) (octets : List ℕ) where
   size-of : p .kind % 2 ≡ family → addressSize (p .kind) ≡ cond (eqb family 1) 16 4
-  unfolding addressSize
+  unfolding addressSize sizeOf
   size-of e = rw e
 
   kept : (i : ℕ) → p .kind % 2 ≡ family → i < cond (eqb family 1) 16 4 → getD (stored p .addr) i 0 ≡ getD (p .addr) i 0

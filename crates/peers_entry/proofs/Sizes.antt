@@ -5,20 +5,14 @@ use mathlib.Core.Bool.{Bool, true, false}
 use native.Mathlib.Omega.{arith}
 use borrow.Author.Tests.{eq-eqb, ne-eqb}
 use lib.Dec.{ltb, eqb}
+use Rattle.octets_address.specs.Address.{sizeOf}
+use Rattle.octets_address.proofs.Addresses.{size-le}
 use Rattle.peers_entry.specs.Peer.{wide, addressSize, asSize, peerSize, unfit}
 use Rattle.peers_entry.specs.declared.Peer.{Peer}
 
 module _ (kind : ℕ) where
-  pub address-long : kind % 2 ≡ 1 → 16 ≡ addressSize kind
-  unfolding addressSize
-  address-long e = simp (eq-eqb _ _ e)
-
-  pub address-short : (kind % 2 ≡ 1 → ⊥) → 4 ≡ addressSize kind
-  unfolding addressSize
-  address-short e = simp (ne-eqb _ _ e)
-
   pub address-either : (addressSize kind ≡ 4 → ⊥) → addressSize kind ≡ 16
-  unfolding addressSize
+  unfolding addressSize sizeOf
   address-either = case (eqb (kind % 2) 1) refl
     where
       case : (z : Bool) → eqb (kind % 2) 1 ≡ z → (addressSize kind ≡ 4 → ⊥) → addressSize kind ≡ 16
@@ -43,19 +37,7 @@ module _ (kind : ℕ) where
 
   pub address-le : addressSize kind ≤ 16
   unfolding addressSize
-  address-le = case (eqb (kind % 2) 1) refl
-    where
-      case : (z : Bool) → eqb (kind % 2) 1 ≡ z → addressSize kind ≤ 16
-      case true e = simp e (omega arith)
-      case false e = simp e (omega arith)
-
-  pub address-least : 4 ≤ addressSize kind
-  unfolding addressSize
-  address-least = case (eqb (kind % 2) 1) refl
-    where
-      case : (z : Bool) → eqb (kind % 2) 1 ≡ z → 4 ≤ addressSize kind
-      case true e = simp e (omega arith)
-      case false e = simp e (omega arith)
+  address-le = size-le (eqb (kind % 2) 1) .1
 
   pub as-le : asSize kind ≤ 4
   unfolding asSize

@@ -9,16 +9,10 @@ use borrow.Author.Tests.{eqb-true, eqb-false}
 use lib.ListN.{getD, replicate}
 use lib.Seq.{getD-at}
 use lib.Dec.{eqb}
-use Rattle.peers_entry.specs.Peer.{addressSize, octetsAt, addressAt, peerAt, stored}
+use Rattle.octets_address.specs.Address.{octetsAt, addressAt}
+use Rattle.octets_address.proofs.Addresses.{length-octets, address-again}
+use Rattle.peers_entry.specs.Peer.{addressSize, peerAt, stored}
 use Rattle.peers_entry.specs.declared.Peer.{Peer}
-use Rattle.peers_entry.proofs.Addresses.{length-octets, octets-between}
-
--- an address of n octets that is stored again
-address-again : (s : List ℕ) (at n : ℕ) → addressAt (addressAt s at n) 0 n ≡ addressAt s at n
-unfolding addressAt
-address-again s at n =
-    ap (λ (x : List ℕ). x ++ replicate (16 - n) 0)
-    (octets-between [] (octetsAt s at n) (replicate (16 - n) 0) 0 n refl (length-octets s at n))
 
 -- THEOREM. Storing changes nothing of a peer that was read, or stored already.
 pub stored-read : (s : List ℕ) (at : ℕ) → stored (peerAt s at) ≡ peerAt s at

@@ -1,12 +1,13 @@
 -- One peer of a PEER_INDEX_TABLE (RFC 6396, 4.3.1; 01, Peer table): Peer Type 1, Peer BGP ID 4, Peer IP Address 4 or 16,
 -- Peer AS 2 or 4. Of the type, value 1 means an IPv6 address and value 2 an AS of four octets; other bits are kept.
-use Prim.Native.Nat.{ℕ, zero, suc, _+_, _-_, _*_, _/_, _%_}
+use Prim.Native.Nat.{ℕ, zero, suc, _+_, _*_, _/_, _%_}
 use mathlib.Core.List.{List, [], _∷_, _++_}
 use mathlib.Core.Bool.{Bool, true, cond, not, _&&_}
 use lib.ListN.{length, getD, replicate}
 use lib.Dec.{leb, ltb, eqb}
 use Rattle.answer.specs.Refusal.{outcomeNumber}
 use Rattle.octets.specs.Octets.{beAt, bytesOf, patch}
+use Rattle.octets_address.specs.Address.{sizeOf, octetsAt, addressAt}
 use Rattle.peers_entry.specs.declared.Peer.{Peer}
 use Rattle.peers_entry.specs.declared.PeerRead.{PeerRead}
 
@@ -16,7 +17,7 @@ wide kind = eqb (kind / 2 % 2) 1
 
 -- how many octets the address takes
 unfoldable pub addressSize : ℕ → ℕ
-addressSize kind = cond (eqb (kind % 2) 1) 16 4
+addressSize kind = sizeOf (eqb (kind % 2) 1)
 
 -- how many octets the AS takes
 unfoldable pub asSize : ℕ → ℕ
@@ -25,15 +26,6 @@ asSize kind = cond (wide kind) 4 2
 -- how many octets the peer takes: 11, 13, 23 or 25
 unfoldable pub peerSize : ℕ → ℕ
 peerSize kind = 5 + addressSize kind + asSize kind
-
--- the n octets of s from at on; octets past the end count as 0
-unfoldable pub octetsAt : List ℕ → ℕ → ℕ → List ℕ
-octetsAt s at zero = []
-octetsAt s at (suc n) = octetsAt s at n ++ (getD s (at + n) 0 ∷ [])
-
--- an address of n octets in the first n of 16, zeros after
-unfoldable pub addressAt : List ℕ → ℕ → ℕ → List ℕ
-addressAt s at n = octetsAt s at n ++ replicate (16 - n) 0
 
 -- the peer whose first octet stands at an offset
 unfoldable pub peerAt : List ℕ → ℕ → Peer

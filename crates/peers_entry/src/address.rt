@@ -1,46 +1,12 @@
-// Addresses: sixteen octets, of which an address of four octets has the first four.
+// Addresses, looked up by and compared: sixteen octets, of which an address of four octets has the first four.
 ghost use mathlib.Core.Path.{_≡_};
 ghost use Prim.Native.Nat.{_≤_, _+_};
 ghost use lib.ListN.{length};
 ghost use lib.Dec.{eqb};
-ghost use Rattle.octets.specs.Octets.{beAt, patch};
-ghost use Rattle.peers_entry.specs.Peer.{addressAt, addressSize, keyOf, lowFirst, octetsAt, sameAddress, sameOctets, stored};
+ghost use Rattle.octets.specs.Octets.{beAt};
+ghost use Rattle.peers_entry.specs.Peer.{addressSize, keyOf, lowFirst, sameAddress, sameOctets, stored};
 use crate::Peer;
 use crate::kind::address_size;
-
-// Copies four octets as one number.
-fn put_four(out: &mut [u8], to: usize, s: &[u8], at: usize)
-    requires { ⌜ (to + 4 ≤ length (now out)) × (at + 4 ≤ length (now s)) ⌝ }
-    ensures { λ _. ⌜ now (out .exit) ≡ patch (now (out .entry)) to (octetsAt (now (s .entry)) at 4) ⌝ }
-{
-    let stop = at + 4;
-    octets_copies::store32(out, to, octets::be32(&s[at..stop], 0));
-}
-
-// Copies an address of the type's size.
-pub(crate) fn put_address(out: &mut [u8], to: usize, s: &[u8], at: usize, kind: u8)
-    requires { ⌜ (to + addressSize kind ≤ length (now out)) × (at + addressSize kind ≤ length (now s)) ⌝ }
-    ensures { λ _. ⌜ now (out .exit) ≡ patch (now (out .entry)) to (octetsAt (now (s .entry)) at (addressSize kind)) ⌝ }
-{
-    let size = address_size(kind);
-    put_four(out, to, s, at);
-    if size == 4 {
-        return;
-    }
-    put_four(out, to + 4, s, at + 4);
-    put_four(out, to + 8, s, at + 8);
-    put_four(out, to + 12, s, at + 12);
-}
-
-// The address of a type's size that stands at an offset.
-pub(crate) fn read_address(s: &[u8], at: usize, kind: u8) -> [u8; 16]
-    requires { ⌜ at + addressSize kind ≤ length (now s) ⌝ }
-    ensures { λ r. ⌜ r ≡ addressAt (now (s .entry)) at (addressSize kind) ⌝ }
-{
-    let mut addr = [0u8; 16];
-    put_address(&mut addr, 0, s, at, kind);
-    addr
-}
 
 // A peer that has an address and nothing else, to look others up by.
 pub fn address_key(v6: bool, addr: [u8; 16]) -> Peer
@@ -67,7 +33,7 @@ pub fn stored_peer(p: Peer) -> Peer
     ensures answer { λ r. ⌜ r ≡ stored p ⌝ }
 {
     let given = p.addr;
-    let addr = read_address(&given, 0, p.kind);
+    let addr = octets_address::read_address(&given, 0, p.kind % 2 == 1);
     Peer {
         kind: p.kind,
         id: p.id,

@@ -7,10 +7,7 @@ use crate::Peer;
 pub(crate) fn address_size(kind: u8) -> usize
     ensures { λ r. ⌜ r ≡ addressSize kind ⌝ }
 {
-    if kind % 2 == 1 {
-        return 16;
-    }
-    4
+    octets_address::size_of(kind % 2 == 1)
 }
 
 // How many octets the AS takes.

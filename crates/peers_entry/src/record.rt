@@ -7,8 +7,6 @@ ghost use Rattle.octets.specs.Octets.{beAt, bytesOf, patch};
 ghost use Rattle.peers_entry.specs.Peer.{asSize, putPeer, readPeer, reading, unread};
 use crate::Peer;
 use crate::PeerRead;
-use crate::address::put_address;
-use crate::address::read_address;
 use crate::kind::address_size;
 use crate::kind::as_size;
 use crate::kind::peer_size;
@@ -49,7 +47,7 @@ pub fn read_peer(body: &[u8], at: usize) -> PeerRead
     let length = address_size(kind);
     let start = at + 1;
     let front = at + 5;
-    let addr = read_address(body, front, kind);
+    let addr = octets_address::read_address(body, front, kind % 2 == 1);
     PeerRead {
         outcome: Outcome::Accepted,
         peer: Peer {
@@ -107,7 +105,7 @@ pub fn put_peer(out: &mut [u8], at: usize, p: Peer) -> usize
     octets_copies::store32(out, at + 1, p.id);
     let front = at + 5;
     let addr = p.addr;
-    put_address(out, front, &addr, 0, kind);
+    octets_address::put_address(out, front, addr, kind % 2 == 1);
     put_as(out, front + length, kind, p.asn);
     at + size
 }

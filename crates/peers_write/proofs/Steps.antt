@@ -16,6 +16,7 @@ use Rattle.answer.specs.declared.Written.the-variants as W
 use Rattle.octets.specs.Octets.{bytesOf, patch}
 use Rattle.octets.proofs.Numbers.{length-bytes}
 use Rattle.octets.proofs.Stores.{stores}
+use Rattle.octets_address.specs.Address.{sizeOf}
 use Rattle.peers_entry.specs.Peer.{wide, addressSize, asSize, peerSize, unfit}
 use Rattle.peers_entry.specs.declared.Peer.{Peer}
 use Rattle.peers_slots.specs.Used.{wrongCount, inUse}
@@ -36,7 +37,7 @@ abbrev sizes-row : List ℕ
 sizes-row = 11 ∷ 23 ∷ 13 ∷ 25 ∷ []
 
 pub size-row : (kind : ℕ) → getD sizes-row (kind % 4) 0 ≡ peerSize kind
-unfolding peerSize addressSize asSize wide
+unfolding peerSize addressSize sizeOf asSize wide
 size-row kind = by-tests (eqb (kind % 2) 1) (eqb (kind / 2 % 2) 1) refl refl
   where
     by-tests : (t u : Bool) → eqb (kind % 2) 1 ≡ t → eqb (kind / 2 % 2) 1 ≡ u

@@ -8,16 +8,13 @@ use lib.Dec.{eqb}
 use borrow.Author.Tests.{le-leb, lt-leb, eq-eqb, ne-eqb}
 use Rattle.octets.specs.Octets.{beAt, part}
 use Rattle.octets.proofs.Parts.{part-rest}
+use Rattle.octets_address.specs.Address.{addressSize}
 use Rattle.walk_checks.specs.Message.{message}
-use Rattle.walk_checks.specs.Bgp4mp.{asSizes, asSize, addressSize, stateChange, tail, envelope, bgp4mp}
+use Rattle.walk_checks.specs.Bgp4mp.{asSizes, asSize, stateChange, tail, envelope, bgp4mp}
 
 pub as-size-rest : (u : ℕ) → 12 ≤ u → 0 ≡ asSize u
 unfolding asSize asSizes
 as-size-rest u h = sym (List·getD-eq-default asSizes 0 h)
-
-pub address-rest : (f : ℕ) → (f ≡ 1 → ⊥) → (f ≡ 2 → ⊥) → 0 ≡ addressSize f
-unfolding addressSize
-address-rest f a b = simp (ne-eqb _ _ a, ne-eqb _ _ b)
 
 module _ (u : ℕ) where
   pub change-first : u ≡ 0 → true ≡ stateChange u

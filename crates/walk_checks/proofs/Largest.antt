@@ -8,11 +8,13 @@ use lib.ListN.{length, getD, drop, length-drop, replicate}
 use lib.Dec.{eqb, leb, ltb}
 use borrow.Author.Tests.{leb-true, eqb-true}
 use Rattle.octets.specs.Octets.{beAt, ones, Octets}
+use Rattle.octets_address.specs.Address.{addressSize}
+use Rattle.octets_address.proofs.Addresses.{address-le}
 use Rattle.walk_checks.specs.Within.{within}
 use Rattle.walk_checks.specs.Legacy.{legacyBounds, legacy}
 use Rattle.walk_checks.specs.Message.{messageBounds, message}
 use Rattle.walk_checks.specs.declared.Bounds.{Bounds}
-use Rattle.walk_checks.specs.Bgp4mp.{asSizes, asSize, addressSize, stateChange, tail, envelope, bgp4mp}
+use Rattle.walk_checks.specs.Bgp4mp.{asSizes, asSize, stateChange, tail, envelope, bgp4mp}
 
 -- the second of two tests that both hold
 second : (a b : Bool) → (a && b) ≡ true → b ≡ true
@@ -56,15 +58,6 @@ tail-most u l = by-test (stateChange u)
     by-test true h = let e = eqb-true (length l) 4 h in omega arith
     by-test false h = message-most l h
 
-address-most : (f : ℕ) → addressSize f ≤ 16
-unfolding addressSize
-address-most f = by-tests (eqb f 1) (eqb f 2)
-  where
-    by-tests : (a b : Bool) → cond a 4 (cond b 16 0) ≤ 16
-    by-tests true b = omega arith
-    by-tests false true = omega arith
-    by-tests false false = omega arith
-
 -- every element of a list is at most m
 upTo : ℕ → List ℕ → Bool
 upTo m [] = true
@@ -100,7 +93,7 @@ bgp4mp-most u b = by-tests (eqb (asSize u) 0) (leb (2 * asSize u + 4) (length b)
         let l = tail-most u (drop at b) (second fits (tail u (drop at b)) i) in
         let d = length-drop at b in
         let p = as-most u in
-        let q = address-most (beAt b (2 * asSize u + 2) 2) in
+        let q = address-le (beAt b (2 * asSize u + 2) 2) in
         omega arith
 
 -- no subtype of type 5 may be longer

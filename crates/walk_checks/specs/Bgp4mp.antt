@@ -6,6 +6,7 @@ use mathlib.Core.Bool.{Bool, _&&_, _||_, not, cond}
 use lib.ListN.{length, drop, getD}
 use lib.Dec.{eqb, leb}
 use Rattle.octets.specs.Octets.{beAt}
+use Rattle.octets_address.specs.Address.{addressSize}
 use Rattle.walk_checks.specs.Within.{met}
 use Rattle.walk_checks.specs.Message.{message}
 
@@ -15,10 +16,6 @@ asSizes = 2 ∷ 2 ∷ 0 ∷ 0 ∷ 4 ∷ 4 ∷ 2 ∷ 4 ∷ 2 ∷ 4 ∷ 2 ∷ 4 �
 
 unfoldable pub asSize : ℕ → ℕ
 asSize u = getD asSizes u 0
-
--- the octets of an address, by family; 0 where there is no such family
-unfoldable pub addressSize : ℕ → ℕ
-addressSize f = cond (eqb f 1) 4 (cond (eqb f 2) 16 0)
 
 -- the subtypes that end with two states
 unfoldable pub stateChange : ℕ → Bool

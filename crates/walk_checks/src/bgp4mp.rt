@@ -3,7 +3,7 @@ ghost use mathlib.Core.Path.{_≡_};
 ghost use mathlib.Core.Bool.{not};
 ghost use lib.Dec.{eqb};
 ghost use Rattle.answer.specs.Refusal.{outcomeNumber};
-ghost use Rattle.walk_checks.specs.Bgp4mp.{asSize, addressSize, stateChange, tail, bgp4mp};
+ghost use Rattle.walk_checks.specs.Bgp4mp.{asSize, stateChange, tail, bgp4mp};
 use crate::bgp::is_message;
 use answer::Outcome;
 use answer::Refusal;
@@ -19,7 +19,7 @@ pub fn check_bgp4mp(body: &[u8], subtype: u16) -> Outcome
     if n < 2 * a + 4 {
         return Outcome::Refused(Refusal::BodyNotMet);
     }
-    let x = address_size(octets::be16(body, 2 * a + 2)) as usize;
+    let x = octets_address::address_size(octets::be16(body, 2 * a + 2));
     if x == 0 {
         return Outcome::Refused(Refusal::BodyNotMet);
     }
@@ -71,15 +71,4 @@ fn as_size(subtype: u16) -> u8
         return AS_SIZES[u];
     }
     0
-}
-
-// The octets of an address, 0 for a family that is not known.
-fn address_size(family: u16) -> u8
-    ensures { λ r. ⌜ r ≡ addressSize family ⌝ }
-{
-    match family {
-        1 => 4,
-        2 => 16,
-        _ => 0,
-    }
 }

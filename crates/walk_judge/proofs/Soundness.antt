@@ -18,7 +18,7 @@ use Rattle.header.proofs.Framing.{FrameOk, frame-ok}
 use Rattle.walk.specs.Judged.{Judged, fit, off, cut}
 use Rattle.walk_judge.specs.Body.{check}
 use Rattle.walk_judge.specs.Record.{ruled, verdict, judge, judgeAt}
-use Rattle.walk_judge.proofs.Bodies.{OfBody, check-number}
+use Rattle.walk_judge.proofs.Bodies.{check-number}
 
 -- a record that is framed has 12 octets or more, all of them there, and is refused with 5, 6 or 7; where none is framed the
 -- number is 1 to 4, and only 1 and 4 are for want of octets
@@ -31,7 +31,8 @@ verdict-ok : (at : ℕ) (b : Bool) (m : ℕ) (f : Framing) → FrameOk at b m f 
 unfolding verdict
 verdict-ok at b m f o = meets-cond (JudgedOk at) (eqb (f .head .number) 0) b m _ _ whole none
   where
-    by-check : (n : ℕ) → OfBody n → (t : Bool) → eqb n 0 ≡ t → f .head .number ≡ 0 → JudgedOk at b m (cond t (fit f) (off n (f .end)))
+    by-check : (n : ℕ) → ((n ≡ 0 → ⊥) → (5 ≤ n) × (n ≤ 7)) → (t : Bool) → eqb n 0 ≡ t → f .head .number ≡ 0
+        → JudgedOk at b m (cond t (fit f) (off n (f .end)))
     by-check n c true t z =
         let r = o .room z in let e = o .end z in let l = size-least (f .head .kind) in
         (z, omega arith, omega arith, o .all-there (λ y. omega arith) (λ y. omega arith))

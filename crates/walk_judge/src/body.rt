@@ -3,7 +3,7 @@ ghost use mathlib.Core.Bool.{cond};
 ghost use mathlib.Core.Path.{_≡_};
 ghost use Rattle.answer.specs.Refusal.{outcomeNumber};
 ghost use Rattle.header.specs.Kind.{known};
-ghost use Rattle.walk_judge.specs.Body.{check, tableDump};
+ghost use Rattle.walk_judge.specs.Body.{check, tableDumpV2};
 use answer::Outcome;
 use answer::Refusal;
 use header::StoredLength;
@@ -15,13 +15,14 @@ pub fn check_body(body: &[u8], kind: u16, subtype: u16, stored: StoredLength) ->
 {
     match kind {
         5 => walk_checks::check_legacy(subtype, stored),
-        13 => check_table_dump(body, subtype),
+        12 => dump_layout::check_dump(body, subtype),
+        13 => check_table_dump_v2(body, subtype),
         16 | 17 => walk_checks::check_bgp4mp(body, subtype),
         _ => refuse_type(kind),
     }
 }
 
-// A type other than 5, 13, 16 and 17.
+// A type that is not carried.
 fn refuse_type(kind: u16) -> Outcome
     ensures { λ r. ⌜ outcomeNumber r ≡ cond (known kind) 5 2 ⌝ }
 {
@@ -32,8 +33,8 @@ fn refuse_type(kind: u16) -> Outcome
 }
 
 // Type 13: a peer table that holds its peers, or a RIB with a readable head.
-fn check_table_dump(body: &[u8], subtype: u16) -> Outcome
-    ensures { λ r. ⌜ outcomeNumber r ≡ tableDump subtype (now (body .entry)) ⌝ }
+fn check_table_dump_v2(body: &[u8], subtype: u16) -> Outcome
+    ensures { λ r. ⌜ outcomeNumber r ≡ tableDumpV2 subtype (now (body .entry)) ⌝ }
 {
     if subtype != 1 {
         return rib_head::check_rib(body, subtype);

@@ -10,21 +10,12 @@ use lib.ListN.{length, getD, drop, replicate, length-append}
 use lib.Seq.{drop-cons, getD-drop}
 use Rattle.octets.specs.Octets.{beAt, bytesOf, part, Octets}
 use Rattle.octets.proofs.Numbers.{be-drop, be-lt, be-of-bytes, bytes-of-be, length-bytes}
-use Rattle.peers_entry.specs.Peer.{wide, addressSize, asSize, peerSize, octetsAt, addressAt, peerAt, stored, unfit, peerOctets}
+use Rattle.octets.proofs.Parts.{part-one, part-join}
+use Rattle.octets_address.specs.Address.{octetsAt, addressAt}
+use Rattle.octets_address.proofs.Addresses.{length-octets, octets-part, octets-between, octets-drop}
+use Rattle.peers_entry.specs.Peer.{wide, addressSize, asSize, peerSize, peerAt, stored, unfit, peerOctets}
 use Rattle.peers_entry.specs.declared.Peer.{Peer}
 use Rattle.peers_entry.proofs.Sizes.{size-is}
-use Rattle.peers_entry.proofs.Addresses.{length-octets, octets-part, octets-between}
-use Rattle.octets.proofs.Parts.{part-join}
-
--- ---- octets of a part
-octets-drop : (s : List ℕ) (p at n : ℕ) → octetsAt (drop p s) at n ≡ octetsAt s (p + at) n
-unfolding octetsAt
-octets-drop s p at zero = refl
-octets-drop s p at (suc n) = rw (octets-drop s p at n, getD-drop p s (at + n) 0, add-assoc p at n)
-
--- a part of one octet
-part-one : (s : List ℕ) (at : ℕ) → at < length s → getD s at 0 ∷ [] ≡ part s at 1
-part-one s at h = rw (drop-cons s at 0 h)
 
 -- ---- a peer further on is the first of what is left
 pub peer-drop : (s : List ℕ) (at : ℕ) → peerAt s at ≡ peerAt (drop at s) 0

@@ -26,10 +26,13 @@ use Rattle.whole.proofs.PeerTables as tables
 use Rattle.whole.proofs.PeerTables.{Fitting, load-checked, right-of-write, length-of-write, read-of-body}
 use Rattle.whole.proofs.RibBodies as ribs
 use Rattle.whole.proofs.RibBodies.{length-of-build, read-of-build, read-checked}
+use Rattle.dump_layout.specs.declared.Dump.{Dump}
+use Rattle.dump_write.specs.Write.{writeDump}
+use Rattle.whole.proofs.TableDumps as dumps
 use Rattle.walk.specs.Judged.{fit}
 use Rattle.walk_judge.specs.Body.{check}
 use Rattle.walk_judge.specs.Record.{judgeAt}
-use Rattle.walk_judge.proofs.Bodies.{dump-rib, dump-peers, check-dump}
+use Rattle.walk_judge.proofs.Bodies.{dump-rib, dump-peers, check-dump, check-dump-v2}
 use Rattle.whole.specs.Stream.{Whole, Proper, AllProper, recordOctets, stream, headed, placed}
 use Rattle.whole.proofs.Records.{body-there, judged-there}
 
@@ -147,7 +150,7 @@ module _ (out : List ℕ) (collector : ℕ) (view : List ℕ) (l : List Peer) (c
     table-passes n =
         let b : List ℕ = wroteBody table in
         let r = table-reads l (right-of-write out collector view l count z .0) in
-        sym (check-dump 1 b 13 n refl) ∙ sym (dump-peers 1 b refl) ∙ load-checked b l (ap (λ (x : Heading). x .number) (r .head))
+        sym (check-dump-v2 1 b 13 n refl) ∙ sym (dump-peers 1 b refl) ∙ load-checked b l (ap (λ (x : Heading). x .number) (r .head))
 
     -- THEOREM. With its header it is one record, and its body reads back as it was written.
     module _ (o : List ℕ) (h : CommonHeader) (i : InWidth h) (x : writeHeader o h .number ≡ 0) (k : h .kind ≡ 13) (u : h .subtype ≡ 1)
@@ -189,7 +192,7 @@ module _ (out : List ℕ) (t sequence bits : ℕ) (prefix : List ℕ) (gs : List
     rib-passes n =
         let b : List ℕ = wroteBody rib in
         let c : checkRib b t ≡ 0 = read-checked rib-reads in
-        sym (check-dump t b 13 n refl) ∙ sym (dump-rib t b (not-one t (met-carried b t c))) ∙ c
+        sym (check-dump-v2 t b 13 n refl) ∙ sym (dump-rib t b (not-one t (met-carried b t c))) ∙ c
 
     -- THEOREM. With its header it is one record, and its body reads back as it was begun, with exactly those entries.
     module _ (o : List ℕ) (h : CommonHeader) (i : InWidth h) (x : writeHeader o h .number ≡ 0) (k : h .kind ≡ 13) (u : h .subtype ≡ t)
@@ -207,3 +210,34 @@ module _ (out : List ℕ) (t sequence bits : ℕ) (prefix : List ℕ) (gs : List
       pub rib-stands : (pre : List ℕ)
           → Stands (pre ++ headed (writeHeader o h) rib) (length pre) (record { header = h; body = wroteBody rib }) RibReads
       rib-stands = stands-written o h rib rib-matches rib-reads
+
+-- ---- a TABLE_DUMP body
+module _ (out : List ℕ) (t : ℕ) (d : Dump) (attributes : List ℕ) where
+  abbrev dump : Writing
+  dump = writeDump out t d attributes
+
+  -- how the body b reads
+  abbrev pub DumpReads : List ℕ → Type 0
+  DumpReads b = dumps.ReadsBack out t d attributes b
+
+  module _ (z : dump .number ≡ 0) (v : d .view < 256 ^ 2) (q : d .sequence < 256 ^ 2) (w : d .originated < 256 ^ 4) where
+    -- THEOREM. A body that was written passes the check of type 12 and its subtype.
+    pub dump-passes : (n : ℕ) → check 12 t n (wroteBody dump) ≡ 0
+    dump-passes n = sym (check-dump t (wroteBody dump) 12 n refl) ∙ dumps.passes-of-write out t d attributes z
+
+    -- THEOREM. With its header it is one record, and its body reads back as it was written.
+    module _ (o : List ℕ) (h : CommonHeader) (i : InWidth h) (x : writeHeader o h .number ≡ 0) (k : h .kind ≡ 12) (u : h .subtype ≡ t)
+        (e : h .length .0 ≡ dump .octets) where
+      pub dump-matches : Matches o h dump
+      dump-matches =
+          record {
+            widths = i;
+            accepted = x;
+            stored = e;
+            full = dumps.length-of-write out t d attributes z;
+            passes = rw (k, u) (dump-passes (dump .octets));
+          }
+
+      pub dump-stands : (pre : List ℕ)
+          → Stands (pre ++ headed (writeHeader o h) dump) (length pre) (record { header = h; body = wroteBody dump }) DumpReads
+      dump-stands = stands-written o h dump dump-matches (dumps.read-of-write out t d attributes z v q w)

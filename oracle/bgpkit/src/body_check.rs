@@ -36,6 +36,29 @@ pub fn legacy(subtype: u16, body: &Bytes) -> Result<(), ParserError> {
     met(bounds.contains(&body.len()))
 }
 
+pub fn table_dump(subtype: u16, body: Bytes) -> Result<(), ParserError> {
+    let family = match subtype {
+        1 => Afi::Ipv4,
+        2 => Afi::Ipv6,
+        _ => return Err(not_carried()),
+    };
+    met(one_route(family, body).is_some_and(|filled| filled))
+}
+
+/// Whether a type 12 body has a prefix and is filled by its attributes; nothing where it ends before those.
+fn one_route(family: Afi, mut body: Bytes) -> Option<bool> {
+    let (_view, _sequence) = (body.read_u16().ok()?, body.read_u16().ok()?);
+    let has_prefix = match family {
+        Afi::Ipv4 => body.read_ipv4_prefix().is_ok(),
+        _ => body.read_ipv6_prefix().is_ok(),
+    };
+    let (_status, _originated) = (body.read_u8().ok()?, body.read_u32().ok()?);
+    body.read_address(&family).ok()?;
+    body.read_asn(AsnLength::Bits16).ok()?;
+    let attributes = body.read_u16().ok()?;
+    Some(has_prefix && body.remaining() == usize::from(attributes))
+}
+
 pub fn table_dump_v2(subtype: u16, mut body: Bytes) -> Result<(), ParserError> {
     let kind = TableDumpV2Type::try_from(subtype).map_err(|_| not_carried())?;
     match kind {

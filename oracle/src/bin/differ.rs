@@ -2,7 +2,9 @@
 //! where the random numbers start. Ends with status 1 where a disagreement has no name. `--rows` shows the smallest
 //! input for each known difference instead.
 
-use mrt_oracle::campaigns::{bounds, edges, headers, peers, pushes, real, records, ribs, rows, streams, tokens};
+use mrt_oracle::campaigns::{
+    bounds, edges, headers, peers, pushes, real, records, ribs, rows, streams, table_dumps, tokens,
+};
 use mrt_oracle::compare::Differ;
 use mrt_oracle::question::Question;
 use mrt_oracle::random::Random;
@@ -58,6 +60,7 @@ fn run_campaigns(differ: &mut Differ, settings: &Settings) {
     timed("ribs", || ribs::run(&mut put, &mut random));
     // With numbers of its own: the other questions of a seed, of which the lists are made, stay as they are.
     timed("pushes", || pushes::run(&mut put, &mut Random::new(settings.seed)));
+    timed("dumps", || table_dumps::run(&mut put, &mut random));
     timed("records", || records::run(&mut put));
     timed("tokens", || tokens::run(&mut put, &mut random));
     timed("edges", || edges::run(&mut put));

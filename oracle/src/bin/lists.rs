@@ -2,7 +2,7 @@
 //! same build writes the same lists.
 
 use mrt_oracle::asked;
-use mrt_oracle::campaigns::{bounds, headers, peers, records, ribs, streams, tokens};
+use mrt_oracle::campaigns::{bounds, headers, peers, records, ribs, streams, table_dumps, tokens};
 use mrt_oracle::question::Question;
 use mrt_oracle::random::Random;
 use mrt_oracle::sample::Sample;
@@ -25,6 +25,7 @@ fn sampled() -> Sample {
     records::run(&mut offer);
     tokens::short(&mut offer);
     streams::run(&mut offer, &mut random, STREAMS);
+    table_dumps::run(&mut offer, &mut random);
     sample
 }
 

@@ -13,6 +13,7 @@ pub mod records;
 pub mod ribs;
 pub mod rows;
 pub mod streams;
+pub mod table_dumps;
 pub mod tokens;
 
 /// Windows that every kind of walk is asked with.

@@ -1,9 +1,12 @@
 //! Real files: whole, in pieces, and damaged.
 
 use super::{streams, Put, ASKED};
+use crate::answers::{Event, NewDump};
 use crate::damage;
 use crate::question::Question;
 use crate::random::Random;
+use crate::reading;
+use crate::subject::{Reading, Subject};
 use std::path::{Path, PathBuf};
 use std::{env, fs, io};
 
@@ -36,6 +39,7 @@ pub fn run(put: Put, random: &mut Random, files: &[(String, Vec<u8>)]) {
         for _ in 0..300 {
             piece(put, random, file);
         }
+        table_dumps(put, file);
     }
 }
 
@@ -73,4 +77,25 @@ fn piece(put: Put, random: &mut Random, file: &[u8]) {
         damage::once(random, &mut stream);
     }
     streams::walks(put, random, &stream);
+}
+
+/// The subtype and body of each type 12 record that a walk hands out.
+pub fn table_dump_bodies(file: &[u8]) -> Vec<(u16, &[u8])> {
+    let events = Reading.walk(file, 1 << 20, 3).unwrap_or_default();
+    let bodies = events.into_iter().filter_map(|event| match event {
+        Event::Record { start, end, kind: 12, subtype } => Some((subtype, &file[start + 12..end])),
+        _ => None,
+    });
+    bodies.collect()
+}
+
+/// Each type 12 body read, and written as it was read.
+fn table_dumps(put: Put, file: &[u8]) {
+    for (subtype, body) in table_dump_bodies(file) {
+        put(&Question::TableDumpRead { subtype, body });
+        let read = reading::read_table_dump(subtype, body).value;
+        let attributes = &body[read.attributes_at..read.attributes_end];
+        let dump = NewDump { subtype, route: read.route, attributes };
+        put(&Question::TableDumpWrite { room: &vec![0xaa; body.len()], dump });
+    }
 }

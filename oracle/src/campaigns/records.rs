@@ -15,6 +15,9 @@ pub fn run(put: Put) {
     }
     markers(put);
     microseconds(put);
+    for subtype in 0..=3 {
+        table_dumps(put, subtype);
+    }
 }
 
 /// One record and what a candidate and a walk make of it.
@@ -102,5 +105,20 @@ fn microseconds(put: Put) {
         for asked in ASKED {
             put(&Question::Walk { stream: &torn, window: 100, asked });
         }
+    }
+}
+
+/// Cut at every octet and with one too many, and with every number of prefix bits.
+fn table_dumps(put: Put, subtype: u16) {
+    let mut body = make::table_dump(subtype, 24, &[64, 1, 1]);
+    body.push(0);
+    for cut in 0..=body.len() {
+        all_about(put, &make::record(12, subtype, &body[..cut]));
+        put(&Question::TableDumpRead { subtype, body: &body[..cut] });
+    }
+    for bits in 0..=255 {
+        let body = make::table_dump(subtype, bits, &[]);
+        all_about(put, &make::record(12, subtype, &body));
+        put(&Question::TableDumpRead { subtype, body: &body });
     }
 }

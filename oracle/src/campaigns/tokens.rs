@@ -18,6 +18,7 @@ fn alphabet() -> Vec<Vec<u8>> {
         make::record(5, 3, &[0; 10]),
         make::record(13, 1, &[0; 8]),
         make::record(13, 2, &make::rib_head(0, 0, 0, 1)),
+        make::record(12, 1, &make::table_dump(1, 32, &[])),
         make::header(0, 32, 0, 0),
         make::header(0, 13, 6, 0),
         make::header(0, 16, 1, 0),

@@ -2,13 +2,14 @@
 
 use super::header::is_known;
 use super::octets::be16;
-use super::{peers, rib};
+use super::{peers, rib, table_dump};
 
 /// Whether a body passes the check of its type, subtype and stored length: 0, or the refusal 2, 5, 6 or 7.
 #[inline]
 pub fn body_check(kind: u16, subtype: u16, stored: u32, body: &[u8]) -> u8 {
     let met = match kind {
         5 => legacy(subtype, stored as usize),
+        12 => table_dump::is_route(subtype, body),
         13 => table_dump_v2(subtype, body),
         16 | 17 => bgp4mp(subtype, body),
         _ if is_known(kind) => return 5,

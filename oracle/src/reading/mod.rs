@@ -5,10 +5,12 @@ mod header;
 mod octets;
 mod peers;
 mod rib;
+mod table_dump;
 mod walk;
 
 pub use check::body_check;
 pub use header::{frame, read_header, write_header};
 pub use peers::{add_peer, find_peer, read_peer, read_peers, write_peers};
 pub use rib::{add_entry, begin_rib, next_entry, push_entry, push_rows, read_entry, read_rib};
+pub use table_dump::{read_table_dump, write_table_dump};
 pub use walk::{aligned, candidate, judge, scan, step};

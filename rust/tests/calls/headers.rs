@@ -31,7 +31,7 @@ fn each_refusal_of_a_record_comes_in_its_order() {
     assert_eq!(Record::read(&record(17, 0, &[0; 3]), 0), Err(Refusal::ShortLength));
     assert_eq!(Record::read(&record(17, 0, &[0; 4])[..15], 0), Err(Refusal::TruncatedHeader));
     assert_eq!(Record::read(&record(13, 1, &[0; 8])[..19], 0), Err(Refusal::TruncatedBody));
-    assert_eq!(Record::read(&record(12, 1, &[0; 8]), 0), Err(Refusal::NotCarried));
+    assert_eq!(Record::read(&record(11, 1, &[0; 8]), 0), Err(Refusal::NotCarried));
     assert_eq!(Record::read(&record(13, 6, &[0; 8]), 0), Err(Refusal::OtherSubtype));
     assert_eq!(Record::read(&record(13, 1, &[0; 7]), 0), Err(Refusal::BodyNotMet));
 }
@@ -44,7 +44,7 @@ fn a_frame_that_fills_the_stream_borrows_its_body() {
     let record = Record::read(&stream, 0).unwrap();
     assert_eq!((record.start, record.end, record.body), (0, 32, &stream[12..32]));
     assert_eq!(Ok(Frame::from(record)), Frame::read(&stream, 0));
-    assert!(record.peer_index().is_none() && record.rib().is_none());
+    assert!(record.peer_index().is_none() && record.rib().is_none() && record.table_dump().is_none());
 }
 
 #[test]

@@ -1,5 +1,6 @@
 //! Every call with plain and odd arguments, round trips, and whole walks.
 
+mod dumps;
 mod headers;
 mod listings;
 mod peers;

@@ -91,6 +91,19 @@ fn a_framed_record_that_is_refused_is_skipped_alone() {
     assert_eq!(gaps(&stream[..51], Options::new()), [(32, 51, 7, 4, 0)]);
 }
 
+#[test]
+fn table_dumps_confirm_an_own_end_and_no_scan() {
+    let dumps = [record(12, 1, &[0; 22]), record(12, 2, &[0; 46])].concat();
+    let n = 12 + dumps.len();
+    assert_eq!(gaps(&dumps, options(200, 2)), []);
+    let refused = [record(12, 3, &[]), dumps.clone()].concat();
+    assert_eq!(gaps(&refused, options(200, 2)), [(0, 12, 6, 4, 2)]);
+    let lost = [vec![255; 12], dumps].concat();
+    assert_eq!(gaps(&lost, options(200, 2)), [(0, n, 2, 5, 0)]);
+    let found = [lost, state_change().repeat(2)].concat();
+    assert_eq!(gaps(&found, options(200, 2)), [(0, n, 2, 3, 2)]);
+}
+
 /// Whether so many records, or the end where that is none, follow.
 fn confirmed(gap: &Gap, after: &[Item<'_>]) -> bool {
     let records = after.iter().take(gap.confirmed.into()).filter(|item| matches!(item, Item::Record(_))).count();
@@ -130,9 +143,10 @@ fn intact(random: &mut Random) -> Vec<u8> {
         record(5, 7, &[0; 12]),
         record(13, 1, &[0; 8]),
         record(13, 2, &[0; 7]),
-        record(12, 1, &[0; 9]),
+        record(12, 1, &[0; 22]),
+        record(11, 1, &[0; 9]),
     ];
-    (0..random.below(12)).flat_map(|_| kinds[random.below(7)].clone()).collect()
+    (0..random.below(12)).flat_map(|_| kinds[random.below(8)].clone()).collect()
 }
 
 /// Octets are turned over, left out, put in, or cut off at the end.

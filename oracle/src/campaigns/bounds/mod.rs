@@ -5,6 +5,7 @@ mod headers;
 mod peers;
 mod records;
 mod ribs;
+mod table_dumps;
 mod walks;
 
 use super::Put;
@@ -14,5 +15,6 @@ pub fn run(put: Put) {
     records::run(put);
     peers::run(put);
     ribs::run(put);
+    table_dumps::run(put);
     walks::run(put);
 }

@@ -15,6 +15,7 @@ pub fn run(put: Put) {
     message_lengths(put);
     markers(put);
     microseconds(put);
+    table_dumps(put);
     offsets(put);
 }
 
@@ -122,6 +123,21 @@ fn microseconds(put: Put) {
     for micros in [0, 999_999, 1_000_000, u32::MAX] {
         all_about(put, &make::timed_record(17, 1, micros, &make::message_body(1, 1, 4, 19)));
         all_about(put, &make::timed_record(17, 0, micros, &make::state_change_body(0, 2)));
+    }
+}
+
+/// A body that is cut by the stream comes before a subtype that is not carried. No candidate stands, whole or not.
+fn table_dumps(put: Put) {
+    for subtype in [0, 1, 2, 3] {
+        let body = make::table_dump(subtype, 24, &[64, 1, 1]);
+        for length in [body.len() - 1, body.len()] {
+            let record = make::record(12, subtype, &body[..length]);
+            all_about(put, &record);
+            all_about(put, &record[..record.len() - 1]);
+        }
+        for bits in [32, 33, 128, 129] {
+            all_about(put, &make::record(12, subtype, &make::table_dump(subtype, bits, &[])));
+        }
     }
 }
 

@@ -30,6 +30,9 @@ fn streams() -> Vec<Vec<u8>> {
     let table = make::record(13, 1, &[0; 8]);
     let broken = make::record(13, 1, &[0; 7]);
     let torn = vec![0; 5];
+    let dump = make::record(12, 1, &make::table_dump(1, 24, &[]));
+    let wide = make::record(12, 2, &make::table_dump(2, 64, &[7]));
+    let cut = make::record(12, 1, &make::table_dump(1, 24, &[])[..21]);
     vec![
         Vec::new(),
         [&state[..], &broken, &state].concat(),
@@ -41,6 +44,10 @@ fn streams() -> Vec<Vec<u8>> {
         [&broken[..], &torn, &late, &message].concat(),
         [&state[..], &make::header(0, 16, 0, 40), &[0; 3]].concat(),
         [make::header(0, 14, 0, 0), state.repeat(2)].concat(),
+        [&dump[..], &wide, &cut, &wide, &dump].concat(),
+        [&broken[..], &dump, &wide, &dump[..dump.len() - 1]].concat(),
+        [&torn[..], &dump, &dump, &dump].concat(),
+        [&cut[..], &torn, &wide, &state, &state].concat(),
     ]
 }
 

@@ -1,12 +1,14 @@
-use Rattle.peers_entry.proofs.Sizes.{address-long, address-short}
+use borrow.Author.Needs.{needs}
+use Rattle.peers_entry.specs.Peer.{addressSize}
 use Rattle.peers_entry.proofs.kind.address_size.Statement.{statement}
 use Rattle.peers_entry.proofs.kind.address_size.Tie as tie
 
-returns : tie.Need-returns
-returns c = address-long _ (c .if1 .taken)
+size-of-requires : tie.Need-size-of-requires
+size-of-requires c κs = search needs
 
-returns-2 : tie.Need-returns-2
-returns-2 c = address-short _ (c .if1 .left)
+returns : tie.Need-returns
+unfolding addressSize
+returns c = c .size-of .ensures
 
 pub address-size-spec : {M : Type 1} → statement M
-address-size-spec = tie.close (tie.spec returns returns-2)
+address-size-spec = tie.close (tie.spec size-of-requires returns)

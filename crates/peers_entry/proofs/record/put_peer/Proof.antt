@@ -1,7 +1,9 @@
-use mathlib.Core.Path.{_≡_, ap, _∙_}
+use mathlib.Core.Path.{ap, _∙_}
 use lib.ListN.{length}
 use native.Mathlib.Omega.{arith}
 use Rattle.octets.proofs.Stores.{length-patch}
+use Rattle.octets_address.proofs.Addresses.{length-put}
+use Rattle.peers_entry.specs.Peer.{addressSize}
 use Rattle.peers_entry.proofs.Sizes.{address-le, size-is}
 use Rattle.peers_entry.proofs.Records.{put-small, put-late, put-whole}
 use borrow.Author.Needs.{needs}
@@ -32,34 +34,24 @@ store32-requires c κs = search needs
 add-front : tie.Need-add-front
 add-front c = search needs
 
-slice-aggregate-put-address : tie.Need-slice-aggregate-put-address
-slice-aggregate-put-address c = search needs
-
 put-address-requires : tie.Need-put-address-requires
-put-address-requires c κs =
-    let at-word = c .before .before .before .before .before in
-    let at-octet = at-word .before .before .before .before in
-    let start = at-octet .before .before .before .before .before .before .before .args in
-    let e : 16 ≡ length (start .p .addr) = slice-aggregate-put-address c in
-    let one = ap length (at-octet .put-octet .ensures) ∙ length-patch _ _ _ in
-    let two = ap length (at-word .store32 .ensures) ∙ length-patch _ _ _ in
-    (omega (arith, size-is (start .p .kind), one, two), omega (arith, address-le (start .p .kind)))
+put-address-requires c κs = search needs
 
 add-put-as : tie.Need-add-put-as
 add-put-as c =
-    let start = c .before .before .before .before .before .before .before .before .before .before .before .before .before .before .before
-    .before .before .before .before .before .args in
-    omega (arith, address-le (start .p .kind), size-is (start .p .kind))
+    let at-word = c .before .before .before .before .before .before .before .before in
+    let kind = at-word .before .before .before .before .before .before .before .before .before .before .before .args .p .kind in
+    omega (arith, address-le kind, size-is kind)
 
 put-as-requires : tie.Need-put-as-requires
 put-as-requires c κs =
     let at-address = c .before .before .before in
-    let at-word = at-address .before .before .before .before .before .before in
+    let at-word = at-address .before .before .before .before .before in
     let at-octet = at-word .before .before .before .before in
     let start = at-octet .before .before .before .before .before .before .before .args in
     let one = ap length (at-octet .put-octet .ensures) ∙ length-patch _ _ _ in
     let two = ap length (at-word .store32 .ensures) ∙ length-patch _ _ _ in
-    let three = ap length (at-address .put-address .ensures) ∙ length-patch _ _ _ in
+    let three = ap length (at-address .put-address .ensures) ∙ length-put _ _ _ _ in
     omega (arith, size-is (start .p .kind), one, two, three)
 
 add-result : tie.Need-add-result
@@ -69,10 +61,11 @@ same-length : tie.Need-same-length
 same-length c = search needs
 
 returns-3 : tie.Need-returns-3
+unfolding addressSize
 returns-3 c =
     let at-as = c .before .before in
     let at-address = at-as .before .before .before .before in
-    let at-word = at-address .before .before .before .before .before .before in
+    let at-word = at-address .before .before .before .before .before in
     let at-octet = at-word .before .before .before .before in
     let at-if2 = at-octet .before .before .before in
     put-whole _ _ _ (at-if2 .before .before .peer-size .ensures) (at-if2 .before .if1 .left) (at-if2 .if2 .left)
@@ -91,7 +84,6 @@ put-peer-spec =
     add-store32
     store32-requires
     add-front
-    slice-aggregate-put-address
     put-address-requires
     add-put-as
     put-as-requires

@@ -1,5 +1,6 @@
 use mathlib.Core.Path.{_∙_}
 use native.Mathlib.Omega.{arith}
+use Rattle.peers_entry.specs.Peer.{addressSize}
 use Rattle.peers_entry.proofs.Sizes.{address-le, size-is}
 use Rattle.peers_entry.proofs.Records.{read-beyond, read-short, read-whole}
 use borrow.Author.Needs.{needs}
@@ -36,7 +37,7 @@ add-front : tie.Need-add-front
 add-front c = search needs
 
 read-address-requires : tie.Need-read-address-requires
-read-address-requires c κs = omega (arith, size-is (c .before .before .before .octet .result))
+read-address-requires c κs = search needs
 
 sub-be32 : tie.Need-sub-be32
 sub-be32 c = search needs
@@ -58,10 +59,11 @@ add-read-as c =
 read-as-requires : tie.Need-read-as-requires
 read-as-requires c κs = omega (arith, size-is (c .before .before .before .before .before .before .octet .result))
 
-add-t22 : tie.Need-add-t22
-add-t22 c = search needs
+add-t23 : tie.Need-add-t23
+add-t23 c = search needs
 
 returns-3 : tie.Need-returns-3
+unfolding addressSize
 returns-3 c =
     let at-if2 = c .before .before .before .before .before in
     let at-octet = at-if2 .before .before in
@@ -89,5 +91,5 @@ read-peer-spec =
     be32-requires
     add-read-as
     read-as-requires
-    add-t22
+    add-t23
     returns-3)

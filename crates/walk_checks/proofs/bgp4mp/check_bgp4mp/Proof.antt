@@ -1,3 +1,6 @@
+use Prim.Native.Nat.{_≤_}
+use native.Mathlib.Omega.{arith}
+use Rattle.octets_address.proofs.Addresses.{address-le}
 use Rattle.walk_checks.proofs.Envelopes.{bgp4mp-other, bgp4mp-short, bgp4mp-family, bgp4mp-cut, bgp4mp-met, bgp4mp-unmet}
 use borrow.Author.Needs.{needs}
 use Rattle.walk_checks.proofs.bgp4mp.check_bgp4mp.Statement.{statement}
@@ -33,9 +36,6 @@ be16-requires c κs = search needs
 address-size-requires : tie.Need-address-size-requires
 address-size-requires c κs = search needs
 
-cast-x : tie.Need-cast-x
-cast-x c = search needs
-
 returns-3 : tie.Need-returns-3
 returns-3 c =
     let at-be16 = c .before .before in
@@ -51,11 +51,15 @@ mul-at c = search needs
 add-at : tie.Need-add-at
 add-at c = search needs
 
+-- an address is short
+small : (c : tie.After-address-size) → c .address-size .result ≤ 16
+small c = rw (c .address-size .ensures) (address-le _)
+
 mul-at-2 : tie.Need-mul-at-2
-mul-at-2 c = search needs
+mul-at-2 c = let l = small (c .before) in omega arith
 
 add-at-2 : tie.Need-add-at-2
-add-at-2 c = search needs
+add-at-2 c = let l = small (c .before) in omega arith
 
 returns-4 : tie.Need-returns-4
 returns-4 c =
@@ -117,7 +121,6 @@ check-bgp4mp-spec =
     add-be16
     be16-requires
     address-size-requires
-    cast-x
     returns-3
     mul-at
     add-at

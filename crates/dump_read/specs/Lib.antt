@@ -1,0 +1,2 @@
+-- Read: a whole body.
+pub mod Read

@@ -1,0 +1,2 @@
+-- Write: a whole body.
+pub mod Write

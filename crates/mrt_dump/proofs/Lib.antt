@@ -1,0 +1,2 @@
+-- Dumps: the cases of `mrt_read_table_dump`.
+pub mod Dumps

@@ -1,0 +1,2 @@
+-- Writes: the cases of `mrt_write_table_dump`.
+pub mod Writes

@@ -1,0 +1,2 @@
+-- Write: a body written with addresses that are lent.
+pub mod Write

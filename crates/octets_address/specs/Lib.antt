@@ -1,0 +1,2 @@
+-- Address: an address in lent octets, and in sixteen of its own.
+pub mod Address
