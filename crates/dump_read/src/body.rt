@@ -1,6 +1,7 @@
 // Reading a whole body: its fields, and where its attributes stand.
 ghost use mathlib.Core.Path.{_≡_};
 ghost use Prim.Native.Nat.{_≤_};
+ghost use lib.Dec.{eqb};
 ghost use lib.ListN.{length};
 ghost use Rattle.answer.specs.Refusal.{numberOf};
 ghost use Rattle.octets_address.specs.Address.{sizeOf};
@@ -19,10 +20,11 @@ pub fn read_dump(body: &[u8], subtype: u16) -> DumpRead
         Outcome::Refused(r) => refused(r),
         Outcome::Accepted => {
             let x = octets_address::address_size(subtype);
+            let start = 14 + 2 * x;
             DumpRead {
                 outcome: Outcome::Accepted,
-                dump: fields(body, x == 16),
-                start: 14 + 2 * x,
+                dump: fields(body, x),
+                start,
                 end: body.len(),
             }
         }
@@ -30,11 +32,10 @@ pub fn read_dump(body: &[u8], subtype: u16) -> DumpRead
 }
 
 // What stands before the attributes, by parts whose lengths are written out, so that no octet is tested by itself.
-fn fields(body: &[u8], long: bool) -> Dump
-    requires { ⌜ attributesAt (sizeOf long) ≤ length (now body) ⌝ }
-    ensures { λ r. ⌜ r ≡ dumpAt (sizeOf long) (now (body .entry)) ⌝ }
+fn fields(body: &[u8], x: usize) -> Dump
+    requires { ⌜ (sizeOf (eqb x 16) ≡ x) × (attributesAt x ≤ length (now body)) ⌝ }
+    ensures { λ r. ⌜ r ≡ dumpAt x (now (body .entry)) ⌝ }
 {
-    let x = octets_address::size_of(long);
     let start = 4 + x;
     let front = 10 + x;
     let at = 10 + 2 * x;
@@ -45,11 +46,11 @@ fn fields(body: &[u8], long: bool) -> Dump
     Dump {
         view: octets::be16(head, 0),
         sequence: octets::be16(head, 2),
-        prefix: octets_address::read_address(body, 4, long),
+        prefix: octets_address::read_address(body, 4, x == 16),
         bits,
         status: octets::octet(middle, 1),
         originated: octets::be32(middle, 2),
-        peer: octets_address::read_address(body, front, long),
+        peer: octets_address::read_address(body, front, x == 16),
         asn: octets::be16(&body[at..end], 0) as u32,
     }
 }

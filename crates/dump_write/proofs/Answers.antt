@@ -75,12 +75,12 @@ module _ (s : List ℕ) (u : ℕ) (d : Dump) (attributes : List ℕ) {x : ℕ} (
       pub write-full : length s < attributesAt x + length attributes → refuse 9 s ≡ writeDump s u d attributes
       write-full h = front-full s (dumpOctets x d attributes) (attributesAt x + length attributes) (length-dump x d attributes) h ∙ front
 
-      pub write-done : attributesAt x + length attributes ≤ length s → {w : ℕ} {t v : List ℕ} → w ≡ x
-          → t ≡ patch s 0 (headOctets w d (length attributes)) → v ≡ patch t (attributesAt x) attributes
+      pub write-done : attributesAt x + length attributes ≤ length s → {t v : List ℕ} → t ≡ patch s 0 (headOctets x d (length attributes))
+          → v ≡ patch t (attributesAt x) attributes
           → record { number = 0; octets = attributesAt x + length attributes; output = v } ≡ writeDump s u d attributes
       unfolding dumpOctets
-      write-done h {w} {t} {v} is head rest =
+      write-done h {t} {v} head rest =
           let l : length (headOctets x d (length attributes)) ≡ attributesAt x = length-head x d (length attributes) in
           let all : v ≡ patch s 0 (headOctets x d (length attributes) ++ attributes) =
-          next-stored s (attributesAt x) (headOctets x d (length attributes)) attributes l (rw is at head) rest in
+          next-stored s (attributesAt x) (headOctets x d (length attributes)) attributes l head rest in
           front-stored s (dumpOctets x d attributes) (attributesAt x + length attributes) (length-dump x d attributes) h v all ∙ front

@@ -5,9 +5,10 @@ use mathlib.Core.List.{List, [], _∷_, _++_}
 use native.Mathlib.Nat.{zero-add}
 use native.Mathlib.Omega.{arith}
 use lib.ListN.{length}
+use lib.Dec.{eqb}
 use Rattle.octets.specs.Octets.{bytesOf, patch}
 use Rattle.octets.proofs.Stores.{stores, length-patch}
-use Rattle.octets_address.specs.Address.{octetsAt, putAddress}
+use Rattle.octets_address.specs.Address.{sizeOf, octetsAt, putAddress}
 use Rattle.octets_address.proofs.Addresses.{put-fits}
 use Rattle.dump_layout.specs.Layout.{attributesAt, headOctets}
 use Rattle.dump_layout.specs.declared.Dump.{Dump}
@@ -26,18 +27,20 @@ address-stored s k x p address {t} l h e f =
     let n : length t ≡ length s = ap length e ∙ length-patch s 0 p in
     next-stored s k p (octetsAt address 0 x) l e (f ∙ put-fits t k address x (omega arith))
 
-module _ (s : List ℕ) (x : ℕ) (d : Dump) (n : ℕ) (room : attributesAt x ≤ length s) where
-  pub fields-stored : {y : ℕ} {a b c e f g i j k : List ℕ} → y ≡ x → a ≡ patch s 0 (bytesOf 2 (d .view))
-      → b ≡ patch a 2 (bytesOf 2 (d .sequence)) → c ≡ putAddress b 4 (d .prefix) x → e ≡ patch c (4 + y) (d .bits ∷ [])
-      → f ≡ patch e (5 + y) (d .status ∷ []) → g ≡ patch f (6 + y) (bytesOf 4 (d .originated)) → i ≡ putAddress g (10 + y) (d .peer) x
-      → j ≡ patch i (10 + 2 * y) (bytesOf 2 (d .asn)) → k ≡ patch j (12 + 2 * y) (bytesOf 2 n) → k ≡ patch s 0 (headOctets x d n)
+-- an address is long or has x octets all the same
+module _ (s : List ℕ) (x : ℕ) (d : Dump) (n : ℕ) (z : sizeOf (eqb x 16) ≡ x) (room : attributesAt x ≤ length s) where
+  pub fields-stored : {a b c e f g i j k : List ℕ} → a ≡ patch s 0 (bytesOf 2 (d .view))
+      → b ≡ patch a 2 (bytesOf 2 (d .sequence)) → c ≡ putAddress b 4 (d .prefix) (sizeOf (eqb x 16)) → e ≡ patch c (4 + x) (d .bits ∷ [])
+      → f ≡ patch e (5 + x) (d .status ∷ []) → g ≡ patch f (6 + x) (bytesOf 4 (d .originated))
+      → i ≡ putAddress g (10 + x) (d .peer) (sizeOf (eqb x 16))
+      → j ≡ patch i (10 + 2 * x) (bytesOf 2 (d .asn)) → k ≡ patch j (12 + 2 * x) (bytesOf 2 n) → k ≡ patch s 0 (headOctets x d n)
   unfolding headOctets
-  fields-stored {y} {a} {b} {c} {e} {f} {g} {i} {j} {k} z view sequence prefix bits status originated peer asn count =
+  fields-stored {a} {b} {c} {e} {f} {g} {i} {j} {k} view sequence prefix bits status originated peer asn count =
       let q = next-stored s 2 (to-sequence x d) (bytesOf 2 (d .sequence)) (sequence-at x d) view sequence in
-      let p = address-stored s 4 x (to-prefix x d) (d .prefix) (prefix-at x d) (omega arith) q prefix in
-      let t = next-stored s (4 + x) (to-bits x d) (d .bits ∷ []) (bits-at x d) p (rw z at bits) in
-      let u = next-stored s (5 + x) (to-status x d) (d .status ∷ []) (status-at x d) t (rw z at status) in
-      let o = next-stored s (6 + x) (to-originated x d) (bytesOf 4 (d .originated)) (originated-at x d) u (rw z at originated) in
+      let p = address-stored s 4 x (to-prefix x d) (d .prefix) (prefix-at x d) (omega arith) q (rw z at prefix) in
+      let t = next-stored s (4 + x) (to-bits x d) (d .bits ∷ []) (bits-at x d) p bits in
+      let u = next-stored s (5 + x) (to-status x d) (d .status ∷ []) (status-at x d) t status in
+      let o = next-stored s (6 + x) (to-originated x d) (bytesOf 4 (d .originated)) (originated-at x d) u originated in
       let v = address-stored s (10 + x) x (to-peer x d) (d .peer) (peer-at x d) (omega arith) o (rw z at peer) in
-      let w = next-stored s (10 + 2 * x) (to-as x d) (bytesOf 2 (d .asn)) (as-at x d) v (rw z at asn) in
-      next-stored s (12 + 2 * x) (to-length x d) (bytesOf 2 n) (length-at x d) w (rw z at count)
+      let w = next-stored s (10 + 2 * x) (to-as x d) (bytesOf 2 (d .asn)) (as-at x d) v asn in
+      next-stored s (12 + 2 * x) (to-length x d) (bytesOf 2 n) (length-at x d) w count

@@ -1,6 +1,7 @@
 // Writing a whole body.
 ghost use mathlib.Core.Path.{_≡_};
 ghost use Prim.Native.Nat.{_≤_};
+ghost use lib.Dec.{eqb};
 ghost use lib.ListN.{length};
 ghost use Rattle.answer.specs.Writing.{wrote};
 ghost use Rattle.octets.specs.Octets.{patch};
@@ -27,7 +28,7 @@ pub fn write_dump(out: &mut [u8], subtype: u16, d: Dump, attributes: &[u8]) -> W
     if out.len() < start + n {
         return Written::Refused(Refusal::NoRoom);
     }
-    put_fields(out, x == 16, d, n as u16);
+    put_fields(out, x, d, n as u16);
     octets_copies::put_octets(out, start, attributes);
     Written::Octets(start + n)
 }
@@ -47,20 +48,20 @@ fn is_fit(x: usize, d: Dump, n: usize) -> bool
 }
 
 // What stands before n octets of attributes.
-fn put_fields(out: &mut [u8], long: bool, d: Dump, n: u16)
-    requires { ⌜ (attributesAt (sizeOf long) ≤ length (now out)) × (d .asn ≤ 65535) ⌝ }
-    ensures { λ _. ⌜ now (out .exit) ≡ patch (now (out .entry)) 0 (headOctets (sizeOf long) d n) ⌝ }
+fn put_fields(out: &mut [u8], x: usize, d: Dump, n: u16)
+    requires { ⌜ (sizeOf (eqb x 16) ≡ x) × (attributesAt x ≤ length (now out)) × (d .asn ≤ 65535) ⌝ }
+    ensures { λ _. ⌜ now (out .exit) ≡ patch (now (out .entry)) 0 (headOctets x d n) ⌝ }
 {
-    let x = octets_address::size_of(long);
     let prefix = d.prefix;
     let peer = d.peer;
+    let bits = d.bits;
     octets::put_be16(out, 0, d.view);
     octets::put_be16(out, 2, d.sequence);
-    octets_address::put_address(out, 4, prefix, long);
-    octets::put_octet(out, 4 + x, d.bits);
+    octets_address::put_address(out, 4, prefix, x == 16);
+    octets::put_octet(out, 4 + x, bits);
     octets::put_octet(out, 5 + x, d.status);
     octets::put_be32(out, 6 + x, d.originated);
-    octets_address::put_address(out, 10 + x, peer, long);
+    octets_address::put_address(out, 10 + x, peer, x == 16);
     octets::put_be16(out, 10 + 2 * x, d.asn as u16);
     octets::put_be16(out, 12 + 2 * x, n);
 }

@@ -210,6 +210,15 @@ module _ (s : List ℕ) (p : ℕ) where
         let l = read-within s p e in
         rw (candidate-left l, candidate-over (drop p s) p, read-there l, ← e, q, judge-left s p l)
 
+    -- THEOREM. Where a header is read whose type is of no family, no candidate stands, whatever its body is.
+    pub no-candidate : family k ≡ 0 → fails ≡ over s (candidateAt p)
+    no-candidate z = candidate-implausible (sym (plausible-family k u n us (sym z) refl))
+
+-- so a scan takes up on no record of type 12 or 13
+pub no-dumps : (family 12 ≡ 0) × (family 13 ≡ 0)
+unfolding family
+no-dumps = (refl, refl)
+
 -- THEOREM. A candidate is a record that the judgement accepts, with the same end, and its evidence is 1, 2 or 3.
 pub record Accepted (s : List ℕ) (p v e : ℕ) : Type 0 where
   pub frame : Framing

@@ -3,9 +3,6 @@ use borrow.Author.Needs.{needs}
 use Rattle.dump_read.proofs.body.fields.Statement.{statement}
 use Rattle.dump_read.proofs.body.fields.Tie as tie
 
-size-of-requires : tie.Need-size-of-requires
-size-of-requires c κs = search needs
-
 add-start : tie.Need-add-start
 add-start c = search needs
 
@@ -26,8 +23,8 @@ add-end c = search needs
 
 slice-aggregate-head : tie.Need-slice-aggregate-head
 slice-aggregate-head c =
-    let start = c .before .before .before in
-    head-there (start .args .body .now) (start .args .long) (start .pre)
+    let start = c .before .before in
+    head-there (start .args .body .now) (start .args .x) (start .pre .0) (start .pre .1)
 
 sub-middle : tie.Need-sub-middle
 sub-middle c = search needs
@@ -71,8 +68,8 @@ part-be16-end c = search needs
 be16-requires-3 : tie.Need-be16-requires-3
 be16-requires-3 c κs = search needs
 
-cast-t25 : tie.Need-cast-t25
-cast-t25 c = search needs
+cast-t26 : tie.Need-cast-t26
+cast-t26 c = search needs
 
 returns : tie.Need-returns
 returns c =
@@ -83,8 +80,8 @@ returns c =
     let at-sequence = at-prefix .before in
     let at-view = at-sequence .before in
     let at-bits = at-view .before in
-    let at-size = at-bits .before .before .before in
-    fields-are _ _ (at-size .before .before .pre) (at-size .size-of .ensures) (at-view .be16 .ensures) (at-sequence .be162 .ensures)
+    let start = at-bits .before .before .before .before in
+    fields-are _ _ (start .pre .0) (start .pre .1) (at-view .be16 .ensures) (at-sequence .be162 .ensures)
     (at-prefix .read-address .ensures) (at-bits .octet .ensures) (at-status .octet2 .ensures) (at-originated .be32 .ensures)
     (at-peer .read-address2 .ensures) (c .be163 .ensures)
 
@@ -92,7 +89,6 @@ pub fields-spec : {M : Type 1} → statement M
 fields-spec =
     tie.close
     (tie.spec
-    size-of-requires
     add-start
     add-front
     mul-at
@@ -114,5 +110,5 @@ fields-spec =
     part-be16-start
     part-be16-end
     be16-requires-3
-    cast-t25
+    cast-t26
     returns)

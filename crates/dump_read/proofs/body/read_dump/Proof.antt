@@ -22,20 +22,20 @@ enum-told c = search needs
 address-size-requires : tie.Need-address-size-requires
 address-size-requires c κs = search needs
 
-fields-requires : tie.Need-fields-requires
-fields-requires c κs =
-    let at-told = c .before in
-    front-there _ _ _ (at-told .before .before .check-dump .ensures) (at-told .enum-told .given .1) (c .address-size .ensures)
-
 -- an address is short
 small : (c : tie.After-address-size) → c .address-size .result ≤ 16
 small c = rw (c .address-size .ensures) (address-le _)
 
-mul-t10 : tie.Need-mul-t10
-mul-t10 c = let l = small (c .before) in omega arith
+mul-start : tie.Need-mul-start
+mul-start c = let l = small c in omega arith
 
-add-t11 : tie.Need-add-t11
-add-t11 c = let l = small (c .before) in omega arith
+add-start : tie.Need-add-start
+add-start c = let l = small c in omega arith
+
+fields-requires : tie.Need-fields-requires
+fields-requires c κs =
+    let at-told = c .before in
+    front-there _ _ _ (at-told .before .before .check-dump .ensures) (at-told .enum-told .given .1) (c .address-size .ensures)
 
 returns : tie.Need-returns
 returns c =
@@ -58,8 +58,8 @@ read-dump-spec =
     refused-requires
     enum-told
     address-size-requires
+    mul-start
+    add-start
     fields-requires
-    mul-t10
-    add-t11
     returns
     returns-2)

@@ -2,15 +2,13 @@ use Prim.Native.Nat.{_≤_}
 use mathlib.Core.Path.{_∙_, ap}
 use native.Mathlib.Omega.{arith}
 use lib.ListN.{length}
+use lib.Dec.{eqb}
 use Rattle.octets.proofs.Stores.{length-patch}
 use Rattle.octets_address.proofs.Addresses.{size-le}
 use Rattle.dump_write.proofs.Stored.{fields-stored}
 use borrow.Author.Needs.{needs}
 use Rattle.dump_write.proofs.write.put_fields.Statement.{statement}
 use Rattle.dump_write.proofs.write.put_fields.Tie as tie
-
-size-of-requires : tie.Need-size-of-requires
-size-of-requires c κs = search needs
 
 put-be16-requires : tie.Need-put-be16-requires
 put-be16-requires c κs = search needs
@@ -45,36 +43,36 @@ add-put-address c = search needs
 put-address-requires-2 : tie.Need-put-address-requires-2
 put-address-requires-2 c κs = search needs
 
--- the size of an address is small
-small : (c : tie.After-size-of) → c .size-of .result ≤ 16
-small c = rw (c .size-of .ensures) (size-le _ .1)
+-- an address is short
+small : (c : tie.Start) → c .args .x ≤ 16
+small c = let e = c .pre .0 in let l = size-le (eqb (c .args .x) 16) .1 in omega arith
 
--- the place of the size, as it is seen where the AS is stored
-abbrev size-before-as : tie.After-put-be16-arg3 → tie.After-size-of
-size-before-as c =
+-- the start, as it is seen where the AS is stored
+abbrev start : tie.After-put-be16-arg3 → tie.Start
+start c =
     let at-peer = c .before .before .before in
     let at-status = at-peer .before .before .before .before .before .before .before .before in
     let at-prefix = at-status .before .before .before .before .before .before .before .before in
     let at-view = at-prefix .before .before .before .before .before .before .before .before in
-    at-view .before .before .before .before
+    at-view .before .before .before .before .before
 
 mul-put-be16 : tie.Need-mul-put-be16
-mul-put-be16 c = let l = small (size-before-as c) in omega arith
+mul-put-be16 c = let l = small (start c) in omega arith
 
 add-put-be16 : tie.Need-add-put-be16
-add-put-be16 c = let l = small (size-before-as c) in omega arith
+add-put-be16 c = let l = small (start c) in omega arith
 
 cast-put-be16 : tie.Need-cast-put-be16
-cast-put-be16 c = let h = size-before-as (c .before) .before .before .pre .1 in omega arith
+cast-put-be16 c = let h = start (c .before) .pre .2 in omega arith
 
 put-be16-requires-3 : tie.Need-put-be16-requires-3
 put-be16-requires-3 c κs = search needs
 
 mul-put-be16-2 : tie.Need-mul-put-be16-2
-mul-put-be16-2 c = let l = small (size-before-as (c .before .before .before .before .before)) in omega arith
+mul-put-be16-2 c = let l = small (start (c .before .before .before .before .before)) in omega arith
 
 add-put-be16-2 : tie.Need-add-put-be16-2
-add-put-be16-2 c = let l = small (size-before-as (c .before .before .before .before .before)) in omega arith
+add-put-be16-2 c = let l = small (start (c .before .before .before .before .before)) in omega arith
 
 put-be16-requires-4 : tie.Need-put-be16-requires-4
 put-be16-requires-4 c κs = search needs
@@ -90,8 +88,8 @@ returns c =
     let at-prefix = at-bits .before .before .before .before in
     let at-sequence = at-prefix .before .before .before .before in
     let at-view = at-sequence .before .before .before .before in
-    let at-size = at-view .before .before .before .before in
-    fields-stored _ _ _ _ (at-size .before .before .pre .0) (at-size .size-of .ensures) (at-view .put-be16 .ensures)
+    let first = at-view .before .before .before .before .before in
+    fields-stored _ _ _ _ (first .pre .0) (first .pre .1) (at-view .put-be16 .ensures)
     (at-sequence .put-be162 .ensures) (at-prefix .put-address .ensures) (at-bits .put-octet .ensures) (at-status .put-octet2 .ensures)
     (at-originated .put-be32 .ensures) (at-peer .put-address2 .ensures) (at-asn .put-be163 .ensures) (at-count .put-be164 .ensures)
 
@@ -102,7 +100,6 @@ pub put-fields-spec : {M : Type 1} → statement M
 put-fields-spec =
     tie.close
     (tie.spec
-    size-of-requires
     put-be16-requires
     put-be16-requires-2
     put-address-requires

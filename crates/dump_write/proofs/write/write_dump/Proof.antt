@@ -64,8 +64,7 @@ cast-put-fields c = let f = fit (c .before .before) .count in omega arith
 put-fields-requires : tie.Need-put-fields-requires
 put-fields-requires c κs =
     let at-if2 = c .before .before in
-    let e = long-is at-if2 in
-    (omega (arith, e, c .before .if3 .left), fit at-if2 .asn)
+    (long-is at-if2, omega (arith, c .before .if3 .left), fit at-if2 .asn)
 
 put-octets-requires : tie.Need-put-octets-requires
 put-octets-requires c κs = search needs
@@ -83,7 +82,7 @@ returns-4 c =
     let at-if2 = at-if3 .before in
     let at-if1 = at-if2 .before .before in
     write-done _ _ _ _ (at-if1 .before .address-size .ensures) (at-if1 .if1 .left) (at-if2 .before .is-fit .ensures) (at-if2 .if2 .left)
-    (at-if3 .if3 .left) (long-is at-if2) (at-put .put-fields .ensures) (c .before .before .put-octets .ensures)
+    (at-if3 .if3 .left) (at-put .put-fields .ensures) (c .before .before .put-octets .ensures)
 
 pub write-dump-spec : {M : Type 1} → statement M
 write-dump-spec =
