@@ -6,7 +6,7 @@ use mathlib.Core.Bool.{Bool, true, false, not, cond}
 use native.Mathlib.Nat.{add-zero, add-suc, add-assoc, le-of-eq}
 use native.Mathlib.Numerals.{add-one}
 use native.Mathlib.Omega.{arith}
-use borrow.Author.Tests.{le-leb, lt-leb, ne-eqb, eqb-true, eqb-false, not-true, not-false}
+use borrow.Author.Tests.{le-leb, lt-leb, ne-eqb, not-true, not-false}
 use lib.Dec.{eqb, leb}
 use lib.ListN.{length, getD, take, drop, replicate, length-append, length-drop, length-replicate}
 use lib.Seq.{take-suc, take-all, take-at, drop-at, getD-drop}
@@ -34,26 +34,15 @@ pub address-rest : (f : ℕ) → (f ≡ 1 → ⊥) → (f ≡ 2 → ⊥) → 0 �
 unfolding addressSize
 address-rest f a b = simp (ne-eqb _ _ a, ne-eqb _ _ b)
 
--- the two families have a short and a long one
-pub family-short : (f : ℕ) → f ≡ 1 → addressSize f ≡ sizeOf false
-unfolding addressSize sizeOf
-family-short f e = rw e
-
-pub family-long : (f : ℕ) → (f ≡ 1 → ⊥) → (addressSize f ≡ 0 → ⊥) → addressSize f ≡ sizeOf true
-unfolding addressSize sizeOf
-family-long f a z = by-second (eqb f 2) refl
-  where
-    by-second : (t : Bool) → eqb f 2 ≡ t → addressSize f ≡ 16
-    by-second true e = simp (ne-eqb f 1 a, e)
-    by-second false e = absurd (z (simp (ne-eqb f 1 a, e)))
-
+-- of a family that there is, an address is long where it has sixteen octets
 pub family-size : (f : ℕ) {x : ℕ} → x ≡ addressSize f → (x ≡ 0 → ⊥) → sizeOf (eqb x 16) ≡ x
-unfolding sizeOf
-family-size f {x} e z = by-first (eqb f 1) refl
+unfolding sizeOf addressSize
+family-size f {x} e z = by-tests (eqb f 1) (eqb f 2) e
   where
-    by-first : (t : Bool) → eqb f 1 ≡ t → cond (eqb x 16) 16 4 ≡ x
-    by-first true t = rw (e, family-short f (eqb-true f 1 t))
-    by-first false t = rw (e, family-long f (eqb-false f 1 t) (λ y. z (e ∙ y)))
+    by-tests : (t u : Bool) → x ≡ cond t 4 (cond u 16 0) → cond (eqb x 16) 16 4 ≡ x
+    by-tests true u q = rw q
+    by-tests false true q = rw q
+    by-tests false false q = absurd (z q)
 
 pub address-le : (f : ℕ) → addressSize f ≤ 16
 unfolding addressSize

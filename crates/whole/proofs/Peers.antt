@@ -1,5 +1,5 @@
 -- One peer there and back: a peer's octets read as the peer that is stored, and a peer that was read is written as its octets.
-use Prim.Native.Nat.{ℕ, zero, suc, _+_, _-_, _^_, _<_, _≤_}
+use Prim.Native.Nat.{ℕ, _+_, _-_, _^_, _<_, _≤_}
 use mathlib.Core.Path.{_≡_, refl, sym, _∙_, ap}
 use mathlib.Core.List.{List, [], _∷_, _++_, append-assoc}
 use mathlib.Core.Bool.{Bool, true, false}
@@ -7,7 +7,7 @@ use native.Mathlib.Nat.{add-assoc, add-zero}
 use native.Mathlib.Omega.{arith}
 use borrow.Author.Tests.{ltb-false, le-ltb}
 use lib.ListN.{length, getD, drop, replicate, length-append}
-use lib.Seq.{drop-cons, getD-drop}
+use lib.Seq.{getD-drop}
 use Rattle.octets.specs.Octets.{beAt, bytesOf, part, Octets}
 use Rattle.octets.proofs.Numbers.{be-drop, be-lt, be-of-bytes, bytes-of-be, length-bytes}
 use Rattle.octets.proofs.Parts.{part-one, part-join}

@@ -10,7 +10,7 @@ use lib.Seq.{take-append-seam}
 use lib.Dec.{eqb, leb}
 use borrow.Author.Tests.{eq-eqb, ne-eqb, eqb-true, eqb-false, le-leb}
 use Rattle.answer.specs.Writing.{Writing, atFront}
-use Rattle.octets.specs.Octets.{beAt, part, Octets}
+use Rattle.octets.specs.Octets.{part, Octets}
 use Rattle.octets.proofs.Numbers.{be-lt}
 use Rattle.octets.proofs.Parts.{part-rest}
 use Rattle.octets_address.specs.Address.{addressSize}
@@ -18,8 +18,8 @@ use Rattle.dump_layout.specs.Layout.{attributesAt, dumpAt, dumpOctets}
 use Rattle.dump_layout.specs.Check.{checkDump}
 use Rattle.dump_layout.specs.declared.Dump.{Dump}
 use Rattle.dump_layout.proofs.Checks.{passes-so, passes-carried, passes-filled}
-use Rattle.dump_layout.proofs.Fields.{kept, length-dump, attributes-back, filled-back, dump-of-octets, octets-of-dump}
-use Rattle.dump_read.specs.Read.{Reading, dumpOf}
+use Rattle.dump_layout.proofs.Fields.{kept, attributes-back, filled-back, dump-of-octets, octets-of-dump}
+use Rattle.dump_read.specs.Read.{dumpOf}
 use Rattle.dump_write.specs.Write.{fits, writeDump}
 use Rattle.dump_write.proofs.Answers.{Fit, fit-has, fit-so}
 
