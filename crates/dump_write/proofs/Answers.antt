@@ -9,12 +9,12 @@ use borrow.Author.Tests.{eq-eqb, ne-eqb, le-leb, lt-leb, leb-true, not-true, not
 use Rattle.answer.specs.Writing.{refuse, atFront}
 use Rattle.answer.proofs.Writers.{front-full, front-stored}
 use Rattle.octets.specs.Octets.{patch}
+use Rattle.octets.proofs.Stores.{stores-front}
 use Rattle.octets_address.specs.Address.{addressSize}
 use Rattle.dump_layout.specs.Layout.{attributesAt, headOctets, dumpOctets}
 use Rattle.dump_layout.specs.declared.Dump.{Dump}
 use Rattle.dump_layout.proofs.Fields.{length-head, length-dump}
 use Rattle.dump_write.specs.Write.{fits, writeDump}
-use Rattle.dump_write.proofs.Stored.{next-stored}
 
 -- ---- whether each value fits
 module _ (x : ℕ) (d : Dump) (n : ℕ) where
@@ -81,5 +81,5 @@ module _ (s : List ℕ) (u : ℕ) (d : Dump) (attributes : List ℕ) {x : ℕ} (
       write-done h {t} {v} head rest =
           let l : length (headOctets x d (length attributes)) ≡ attributesAt x = length-head x d (length attributes) in
           let all : v ≡ patch s 0 (headOctets x d (length attributes) ++ attributes) =
-          next-stored s (attributesAt x) (headOctets x d (length attributes)) attributes l head rest in
+          stores-front s (attributesAt x) (headOctets x d (length attributes)) attributes l head rest in
           front-stored s (dumpOctets x d attributes) (attributesAt x + length attributes) (length-dump x d attributes) h v all ∙ front

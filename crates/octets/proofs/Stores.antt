@@ -27,6 +27,11 @@ pub stores : (s : List ℕ) (at k : ℕ) (xs ys : List ℕ) {t u : List ℕ} →
     → u ≡ patch s at (xs ++ ys)
 stores s at k xs ys l p q = q ∙ rw (p, ← l) (patch-run xs ys s at)
 
+-- the same at the front
+pub stores-front : (s : List ℕ) (k : ℕ) (xs ys : List ℕ) {t u : List ℕ} → length xs ≡ k → t ≡ patch s 0 xs → u ≡ patch t k ys
+    → u ≡ patch s 0 (xs ++ ys)
+stores-front s k xs ys l p q = stores s 0 k xs ys l p (rw (zero-add k) q)
+
 -- past the end nothing is stored
 pub patch-beyond : (s : List ℕ) (at : ℕ) (bs : List ℕ) → length s ≤ at → s ≡ patch s at bs
 unfolding patch

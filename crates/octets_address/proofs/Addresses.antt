@@ -12,7 +12,7 @@ use lib.ListN.{length, getD, take, drop, replicate, length-append, length-drop, 
 use lib.Seq.{take-suc, take-all, take-at, drop-at, getD-drop}
 use Rattle.octets.specs.Octets.{beAt, bytesOf, patch, part, Octets}
 use Rattle.octets.proofs.Numbers.{bytes-of-be}
-use Rattle.octets.proofs.Stores.{patch-front, stores, length-patch}
+use Rattle.octets.proofs.Stores.{patch-front, stores, stores-front, length-patch}
 use Rattle.octets.proofs.Parts.{be-front, drop-replicate}
 use Rattle.octets_address.specs.Address.{sizeOf, addressSize, octetsAt, addressAt, addressIn, putAddress}
 
@@ -169,6 +169,13 @@ module _ (s : List ℕ) (at : ℕ) (address : List ℕ) (n : ℕ) where
       by-room : (t : Bool) → length (cond t (patch s at (octetsAt address 0 n)) s) ≡ length s
       by-room true = length-patch s at (octetsAt address 0 n)
       by-room false = refl
+
+-- an address straight after the k octets xs at the front
+pub put-front : (s : List ℕ) (k n : ℕ) (xs address : List ℕ) {t u : List ℕ} → length xs ≡ k → k + n ≤ length s → t ≡ patch s 0 xs
+    → u ≡ putAddress t k address n → u ≡ patch s 0 (xs ++ octetsAt address 0 n)
+put-front s k n xs address {t} l h p q =
+    let m : length t ≡ length s = ap length p ∙ length-patch s 0 xs in
+    stores-front s k xs (octetsAt address 0 n) l p (q ∙ put-fits t k address n (omega arith))
 
 -- all sixteen octets at the front
 pub put-sixteen : (s address : List ℕ) → 16 ≤ length s → 16 ≡ length address → putAddress s 0 address (sizeOf true) ≡ patch s 0 address

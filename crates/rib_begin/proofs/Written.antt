@@ -2,13 +2,13 @@
 use Prim.Native.Nat.{ℕ, zero, suc, _+_, _-_, _≤_}
 use mathlib.Core.Path.{_≡_, refl, sym, _∙_, ap}
 use mathlib.Core.List.{List, [], _∷_, _++_}
-use native.Mathlib.Nat.{add-zero, zero-add}
+use native.Mathlib.Nat.{add-zero}
 use native.Mathlib.Omega.{arith}
 use lib.ListN.{length, take, length-append}
 use lib.Seq.{take-all, take-append-le, length-take-le}
 use Rattle.octets.specs.Octets.{bytesOf, patch}
 use Rattle.octets.proofs.Numbers.{length-bytes}
-use Rattle.octets.proofs.Stores.{stores}
+use Rattle.octets.proofs.Stores.{stores-front}
 use Rattle.rib_head.specs.Layout.{prefixSize}
 use Rattle.rib_head.specs.Prefix.{cleared}
 use Rattle.rib_head.proofs.Prefixes.{length-cleared}
@@ -44,8 +44,9 @@ module _ (bits : ℕ) (prefix : List ℕ) (h : bits ≤ 128) {p : List ℕ} (e :
       let c : take n p ≡ cleared bits prefix n = rw (e, ← k) (take-cleared bits prefix n (16 - n)) in
       let f : length (bytesOf 4 sequence ++ (bits ∷ []) ++ cleared bits prefix n) ≡ 5 + n =
       simp (length-append, length-bytes, length-cleared) (omega arith) in
-      let a = stores s 0 4 (bytesOf 4 sequence) (bits ∷ []) (length-bytes 4 sequence) q r in
+      let a = stores-front s 4 (bytesOf 4 sequence) (bits ∷ []) (length-bytes 4 sequence) q r in
       let b =
-      stores s 0 5 (bytesOf 4 sequence ++ (bits ∷ [])) (cleared bits prefix n) (simp (length-append, length-bytes) refl) a (rw c at y) in
+      stores-front s 5 (bytesOf 4 sequence ++ (bits ∷ [])) (cleared bits prefix n) (simp (length-append, length-bytes) refl) a
+      (rw c at y) in
       rw (← size)
-      (stores s 0 (5 + n) (bytesOf 4 sequence ++ (bits ∷ []) ++ cleared bits prefix n) (bytesOf 2 0) f b (rw (zero-add (5 + n)) z))
+      (stores-front s (5 + n) (bytesOf 4 sequence ++ (bits ∷ []) ++ cleared bits prefix n) (bytesOf 2 0) f b z)
