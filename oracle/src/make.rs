@@ -169,17 +169,25 @@ fn bad_table_dump(random: &mut Random) -> Vec<u8> {
     record(12, subtype, &body)
 }
 
+/// An OPEN that is one octet too short or more.
+fn bad_open(random: &mut Random) -> Vec<u8> {
+    let subtype = random.pick(&MESSAGES);
+    let body = message_body(subtype, random.pick(&[1, 2]), 1, random.pick(&[19, 20, 27, 28]));
+    timed_record(random.pick(&[16, 17]), subtype, 5, &body)
+}
+
 /// A record that is framed and refused with 5, 6 or 7, or one that is not framed.
 pub fn bad_record(random: &mut Random) -> Vec<u8> {
     let length = random.below(40);
     let body = random.octets(length);
-    match random.below(7) {
+    match random.below(8) {
         0 => record(random.pick(&[0, 4, 11, 32, 33, 48, 49]), random.below(4) as u16, &body),
         1 => record(random.pick(&[5, 12, 13, 16, 17]), random.pick(&[2, 3, 6, 7, 12, 99]), &body),
         2 => record(random.pick(&[5, 12, 13, 16, 17]), random.below(12) as u16, &body),
         3 => record(random.pick(&[14, 15, 18, 255, 256, 65_535]), 0, &body),
         4 => header(0, 17, 0, random.below(4) as u32),
         5 => bad_table_dump(random),
+        6 => bad_open(random),
         _ => header(0, random.pick(&[5, 12, 13, 16, 17, 32]), 1, random.pick(&[100, 70_000, 1 << 24, u32::MAX])),
     }
 }

@@ -17,7 +17,7 @@ fn the_crate_and_the_reading_agree() {
 }
 
 /// What each row of the known differences says, the crate before the reading.
-const ROWS: [(&str, &str, &str); 17] = [
+const ROWS: [(&str, &str, &str); 18] = [
     (
         "cut_body_is_named_before_the_unknown_type",
         "G 0 12 4 5 0 (Error: truncated MRT body: expected 129 bytes, read 0) | E 12",
@@ -57,6 +57,12 @@ const ROWS: [(&str, &str, &str); 17] = [
     ("own_parser_leaves_octets_of_a_state_change", "R 0 33 16 0 | E 33", "G 0 33 7 4 0 | E 33"),
     ("own_parser_knows_the_short_state_change", "R 0 20 16 0 | E 20", "G 0 20 7 4 0 | E 20"),
     ("own_parser_knows_the_short_open", "R 0 45 16 1 | E 45", "G 0 45 7 4 0 | E 45"),
+    (
+        "own_check_of_the_scan_has_no_least_open",
+        "G 0 1 4 2 3 (Error: truncated MRT body: expected 16777216 bytes, read 130) | R 1 48 16 1 | R 48 95 16 1 \
+         | R 95 142 16 1 | E 142",
+        "G 0 142 4 5 0 | E 142",
+    ),
     ("next_id_counts_distinct_addresses", "refusal 0, id 2", "refusal 0, id 3"),
     ("view_name_that_is_no_text_is_emptied", "refusal 0, view name of 0 octets", "refusal 0, view name of 1 octets"),
     ("host_bits_are_kept_by_the_reader", "refusal 0, prefix 0aff", "refusal 0, prefix 0a80"),

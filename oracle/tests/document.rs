@@ -66,7 +66,7 @@ fn messages_on_both_sides() {
     for subject in BOTH {
         let judged = |kind, length| refusal(subject, &make::record(16, 1, &make::message_body(1, 1, kind, length)));
         assert_eq!((judged(4, 19), judged(4, 20)), (0, 7));
-        assert_eq!((judged(1, 4_096), judged(1, 4_097)), (0, 7));
+        assert_eq!([19, 28, 29, 4_096, 4_097].map(|length| judged(1, length)), [7, 7, 0, 0, 7]);
         let longest = make::message_body(4, 2, 2, 65_535);
         assert_eq!((longest.len(), refusal(subject, &make::record(16, 4, &longest))), (65_579, 0));
     }
@@ -111,6 +111,19 @@ fn table_dumps_are_walked_and_confirm_but_no_scan_stops_there() {
         let torn = [&[255; 5][..], &dump, &wide].concat();
         assert_eq!(lines(&torn), ["G\t0\t98\t2\t5\t0", "E\t98"]);
         assert!(!subject.candidate(&dump, 0).expect("every subject tests candidates").value.stands);
+    }
+}
+
+#[test]
+fn no_walk_hands_out_an_open_of_28_octets_and_no_scan_stops_there() {
+    let open = make::record(16, 1, &make::message_body(1, 1, 1, 29));
+    let short = make::record(16, 1, &make::message_body(1, 1, 1, 28));
+    for subject in BOTH {
+        let lines = |stream: &[u8]| walk(subject, stream, 1 << 20, 1).iter().map(Event::line).collect::<Vec<_>>();
+        let own_end = [&short[..], &open].concat();
+        assert_eq!(lines(&own_end), ["G\t0\t56\t7\t4\t1", "R\t56\t113\t16\t1", "E\t113"]);
+        let torn = [&[255; 5][..], &short, &open].concat();
+        assert_eq!(lines(&torn), ["G\t0\t61\t2\t2\t1", "R\t61\t118\t16\t1", "E\t118"]);
     }
 }
 

@@ -336,6 +336,21 @@ static void bodies(void) {
     }
 }
 
+/* An OPEN of every length up to a few octets above the most. */
+static void opens(void) {
+    static uint8_t room[16 + 4100] = {[7] = 1};
+    memset(room + 16, 255, 16);
+    room[16 + 18] = 1;
+    for (size_t n = 19; n <= 4100; n++) {
+        room[16 + 16] = (uint8_t)(n >> 8);
+        room[16 + 17] = (uint8_t)n;
+        uint8_t *s = copy(room, 16 + n);
+        uint32_t number = n >= 29 && n <= 4096 ? 0 : 7;
+        expect(mrt_check_body(s, 16 + n, 16, 1, (uint32_t)(16 + n)) == number, "the body of an OPEN", n, number);
+        free(s);
+    }
+}
+
 static void ages(void) {
     expect(mrt_age(0, 0) == 0 && mrt_age(UINT32_MAX, UINT32_MAX) == 0, "no age", 0, 0);
     expect(mrt_age(UINT32_MAX, 0) == 4294967295ll, "the greatest age", 0, 0);
@@ -352,6 +367,7 @@ int main(void) {
     rib(plain, sizeof plain, 2, 0);
     rib(pathed, sizeof pathed, 8, 4294967294u);
     bodies();
+    opens();
     ages();
     return result();
 }

@@ -165,7 +165,7 @@ fn is_message(octets: &[u8]) -> bool {
         return false;
     }
     match front[18] {
-        1 => length <= 4_096,
+        1 => (29..=4_096).contains(&length),
         2 => length >= 23,
         3 => length >= 21,
         4 => length == 19,

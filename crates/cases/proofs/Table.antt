@@ -35,4 +35,4 @@ unfolding rows beAt bytesOf ones over past _>>=_ known timed size header headerA
     headed candidate candidateAt
 table =
     refl & refl & refl & refl & refl & refl & refl & refl & refl & refl & refl
-    & refl & refl & refl & refl & refl & refl & refl & refl & refl & tt
+    & refl & refl & refl & refl & refl & refl & refl & refl & refl & refl & refl & tt

@@ -1,6 +1,6 @@
--- Both sides of each line (01, Both sides of each line: the cases marked P), as one table. A row names its case in words,
--- and holds what a definition finds and what 01 says, both as lists of numbers: the refusal's number or 0 first, then the
--- values in the order of the definition's record.
+-- Both sides of each line (01, Both sides of each line: the cases marked P; 02, wish 2: the least OPEN), as one table. A row
+-- names its case in words, and holds what a definition finds and what the document says, both as lists of numbers: the
+-- refusal's number or 0 first, then the values in the order of the definition's record.
 use Prim.Native.Nat.{ℕ, _-_}
 use Prim.Native.String.{String}
 use mathlib.Core.Path.{_≡_}
@@ -96,6 +96,8 @@ rows =
     ∷ row "count 2, one entry fits" (entered (ribOf (rib 0 0 2 (replicate 8 0)) 2)) (0 ∷ 2 ∷ 1 ∷ [])
     ∷ row "KEEPALIVE of 19 octets" (bgp4mp 1 (message 4 19) ∷ []) (0 ∷ [])
     ∷ row "KEEPALIVE of 20 octets" (bgp4mp 1 (message 4 20) ∷ []) (7 ∷ [])
+    ∷ row "OPEN of 28 octets" (bgp4mp 1 (message 1 28) ∷ []) (7 ∷ [])
+    ∷ row "OPEN of 29 octets" (bgp4mp 1 (message 1 29) ∷ []) (0 ∷ [])
     ∷ row "OPEN of 4,096 octets" (bgp4mp 1 (message 1 4096) ∷ []) (0 ∷ [])
     ∷ row "OPEN of 4,097 octets" (bgp4mp 1 (message 1 4097) ∷ []) (7 ∷ [])
     ∷ row "a candidate's microseconds of 999,999" (candidacy (over (extended 999999) (candidateAt 0))) (1 ∷ 16 ∷ 2 ∷ 51 ∷ [])

@@ -23,40 +23,26 @@ second a b h = and-eq-true-iff a b .0 h .1
 first : (a b : Bool) → (a && b) ≡ true → a ≡ true
 first a b h = and-eq-true-iff a b .0 h .0
 
--- whichever way a test goes
-either-most : (t : Bool) (x y : Bounds) → x .high ≤ 65535 → y .high ≤ 65535 → cond t x y .high ≤ 65535
-either-most true x y l m = l
-either-most false x y l m = m
+-- a length within bounds is at most the upper one, whatever they are
+within-most : (b : Bounds) (n : ℕ) → within b n ≡ true → n ≤ b .high
+within-most b n h = leb-true n (b .high) (second (leb (b .low) n) (leb n (b .high)) h)
 
--- no type of message may be longer
-high-most : (t : ℕ) → messageBounds t .high ≤ 65535
-unfolding messageBounds
-high-most t =
-    either-most (eqb t 1) _ _ (omega arith)
-    (either-most (eqb t 2) _ _ (omega arith)
-    (either-most (eqb t 3) _ _ (omega arith) (either-most (eqb t 4) _ _ (omega arith) (omega arith))))
+-- whichever of two bounds a test chooses
+either-most : (m : ℕ) (t : Bool) (x y : Bounds) → x .high ≤ m → y .high ≤ m → cond t x y .high ≤ m
+either-most m true x y l k = l
+either-most m false x y l k = k
 
-message-most : (l : List ℕ) → message l ≡ true → length l ≤ 65535
+-- a message that passes is no longer than its type may be
+message-most : (l : List ℕ) → message l ≡ true → length l ≤ messageBounds (getD l 18 0) .high
 unfolding message
 message-most l h =
     let n : ℕ = beAt l 16 2 in
-    let t : ℕ = getD l 18 0 in
+    let b : Bounds = messageBounds (getD l 18 0) in
     let marked : Bool = leb 19 (length l) && ones l 0 16 in
     let filled : Bool = eqb n (length l) in
-    let w = second (marked && filled) (within (messageBounds t) n) h in
-    let i = first (marked && filled) (within (messageBounds t) n) h in
-    let e : n ≡ length l = eqb-true n (length l) (second marked filled i) in
-    let m = leb-true n (messageBounds t .high) (second (leb (messageBounds t .low) n) (leb n (messageBounds t .high)) w) in
-    let g = high-most t in
+    let w = within-most b n (second (marked && filled) (within b n) h) in
+    let e = eqb-true n (length l) (second marked filled (first (marked && filled) (within b n) h)) in
     omega arith
-
-tail-most : (u : ℕ) (l : List ℕ) → tail u l ≡ true → length l ≤ 65535
-unfolding tail
-tail-most u l = by-test (stateChange u)
-  where
-    by-test : (t : Bool) → cond t (eqb (length l) 4) (message l) ≡ true → length l ≤ 65535
-    by-test true h = let e = eqb-true (length l) 4 h in omega arith
-    by-test false h = message-most l h
 
 -- every element of a list is at most m
 upTo : ℕ → List ℕ → Bool
@@ -73,50 +59,72 @@ as-most : (u : ℕ) → asSize u ≤ 4
 unfolding asSize asSizes upTo
 as-most u = getD-most 4 asSizes u refl
 
--- THEOREM. The largest body of types 16 and 17 that passes has 65,579 octets: two AS numbers of 4, 4 octets, two addresses of
--- 16, and a message of 65,535.
-pub bgp4mp-most : (u : ℕ) (b : List ℕ) → bgp4mp u b ≡ 0 → length b ≤ 65579
-unfolding bgp4mp envelope
-bgp4mp-most u b = by-tests (eqb (asSize u) 0) (leb (2 * asSize u + 4) (length b) && envelope (asSize u) x u b) refl
-  where
-    x : ℕ
-    x = addressSize (beAt b (2 * asSize u + 2) 2)
+-- whatever the bounds of a message are, as long as none is above m
+module _ (m : ℕ) (states : 4 ≤ m) (most : (t : ℕ) → messageBounds t .high ≤ m) where
+  tail-most : (u : ℕ) (l : List ℕ) → tail u l ≡ true → length l ≤ m
+  unfolding tail
+  tail-most u l = by-test (stateChange u)
+    where
+      by-test : (t : Bool) → cond t (eqb (length l) 4) (message l) ≡ true → length l ≤ m
+      by-test true h = let e = eqb-true (length l) 4 h in omega arith
+      by-test false h = let p = message-most l h in let q = most (getD l 18 0) in omega arith
 
-    by-tests : (t e : Bool) → (leb (2 * asSize u + 4) (length b) && envelope (asSize u) x u b) ≡ e
-        → _≡_ {A = ℕ} (cond t 6 (cond e 0 7)) 0 → length b ≤ 65579
-    by-tests true e h z = absurd (omega arith)
+  -- two AS numbers of 4, 4 octets, two addresses of 16, and a message
+  body-most : (u : ℕ) (b : List ℕ) → bgp4mp u b ≡ 0 → length b ≤ 44 + m
+  unfolding bgp4mp envelope
+  body-most u b = by-tests (eqb (asSize u) 0) (leb (2 * asSize u + 4) (length b) && envelope (asSize u) x u b) refl
+    where
+      x : ℕ
+      x = addressSize (beAt b (2 * asSize u + 2) 2)
+
+      by-tests : (t e : Bool) → (leb (2 * asSize u + 4) (length b) && envelope (asSize u) x u b) ≡ e
+          → _≡_ {A = ℕ} (cond t 6 (cond e 0 7)) 0 → length b ≤ 44 + m
+      by-tests true e h z = absurd (omega arith)
+      by-tests false false h z = absurd (omega arith)
+      by-tests false true h z =
+          let at : ℕ = 2 * asSize u + 4 + 2 * x in
+          let fits : Bool = not (eqb x 0) && leb at (length b) in
+          let i = second (leb (2 * asSize u + 4) (length b)) (fits && tail u (drop at b)) h in
+          let l = tail-most u (drop at b) (second fits (tail u (drop at b)) i) in
+          let d = length-drop at b in
+          let p = as-most u in
+          let q = address-le (beAt b (2 * asSize u + 2) 2) in
+          omega arith
+
+-- no type of message may be longer
+message-high : (t : ℕ) → messageBounds t .high ≤ 65535
+unfolding messageBounds
+message-high t =
+    either-most _ (eqb t 1) _ _ (omega arith)
+    (either-most _ (eqb t 2) _ _ (omega arith)
+    (either-most _ (eqb t 3) _ _ (omega arith) (either-most _ (eqb t 4) _ _ (omega arith) (omega arith))))
+
+-- THEOREM. The largest body of types 16 and 17 that passes has 65,579 octets: 44, and a message of 65,535.
+pub bgp4mp-most : (u : ℕ) (b : List ℕ) → bgp4mp u b ≡ 0 → length b ≤ 65579
+bgp4mp-most = body-most 65535 (omega arith) message-high
+
+-- a stored length of type 5 that passes is no longer than its subtype may be
+stored-most : (u n : ℕ) → legacy u n ≡ 0 → n ≤ legacyBounds u .high
+unfolding legacy
+stored-most u n = by-tests (ltb (legacyBounds u .high) (legacyBounds u .low)) (within (legacyBounds u) n) refl
+  where
+    by-tests : (t w : Bool) → within (legacyBounds u) n ≡ w → _≡_ {A = ℕ} (cond t 6 (cond w 0 7)) 0 → n ≤ legacyBounds u .high
+    by-tests true w h z = absurd (omega arith)
     by-tests false false h z = absurd (omega arith)
-    by-tests false true h z =
-        let at : ℕ = 2 * asSize u + 4 + 2 * x in
-        let fits : Bool = not (eqb x 0) && leb at (length b) in
-        let i = second (leb (2 * asSize u + 4) (length b)) (fits && tail u (drop at b)) h in
-        let l = tail-most u (drop at b) (second fits (tail u (drop at b)) i) in
-        let d = length-drop at b in
-        let p = as-most u in
-        let q = address-le (beAt b (2 * asSize u + 2) 2) in
-        omega arith
+    by-tests false true h z = within-most (legacyBounds u) n h
 
 -- no subtype of type 5 may be longer
 legacy-high : (u : ℕ) → legacyBounds u .high ≤ 65535
 unfolding legacyBounds
 legacy-high u =
-    either-most (eqb u 1) _ _ (omega arith)
-    (either-most (eqb u 3) _ _ (omega arith)
-    (either-most (eqb u 5) _ _ (omega arith)
-    (either-most (eqb u 6) _ _ (omega arith) (either-most (eqb u 7) _ _ (omega arith) (omega arith)))))
+    either-most _ (eqb u 1) _ _ (omega arith)
+    (either-most _ (eqb u 3) _ _ (omega arith)
+    (either-most _ (eqb u 5) _ _ (omega arith)
+    (either-most _ (eqb u 6) _ _ (omega arith) (either-most _ (eqb u 7) _ _ (omega arith) (omega arith)))))
 
 -- THEOREM. The largest body of type 5 that passes has 65,535 octets.
 pub legacy-most : (u n : ℕ) → legacy u n ≡ 0 → n ≤ 65535
-unfolding legacy
-legacy-most u n = by-tests (ltb (legacyBounds u .high) (legacyBounds u .low)) (within (legacyBounds u) n) refl
-  where
-    by-tests : (t w : Bool) → within (legacyBounds u) n ≡ w → _≡_ {A = ℕ} (cond t 6 (cond w 0 7)) 0 → n ≤ 65535
-    by-tests true w h z = absurd (omega arith)
-    by-tests false false h z = absurd (omega arith)
-    by-tests false true h z =
-        let m = leb-true n (legacyBounds u .high) (second (leb (legacyBounds u .low) n) (leb n (legacyBounds u .high)) h) in
-        let g = legacy-high u in
-        omega arith
+legacy-most u n h = let p = stored-most u n h in let q = legacy-high u in omega arith
 
 -- the largest body: subtype 4 with IPv6 addresses and an UPDATE of 65,535 octets
 pub largest : List ℕ

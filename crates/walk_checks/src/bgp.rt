@@ -46,7 +46,7 @@ fn message_bounds(kind: u8) -> Bounds
 {
     match kind {
         1 => Bounds {
-            low: 19,
+            low: 29,
             high: 4096,
         },
         2 => Bounds {

@@ -1,5 +1,5 @@
-//! 01's body check in place of the crate's full parse. It takes the fields off the front one after another with
-//! the crate's own readers, so that it shares no line with the reading it is compared with.
+//! 01's body check, with the least OPEN of 02, in place of the crate's full parse. It takes the fields off the front one
+//! after another with the crate's own readers, so that it shares no line with the reading it is compared with.
 
 use crate::error::ParserError;
 use crate::models::{Afi, AsnLength, Bgp4MpType, TableDumpV2Type};
@@ -117,7 +117,7 @@ fn one_message(mut body: Bytes) -> Option<bool> {
     let length = body.read_u16().ok()?;
     let kind = body.read_u8().ok()?;
     let fits = match kind {
-        1 => (19..=4_096).contains(&length),
+        1 => (29..=4_096).contains(&length),
         2 => length >= 23,
         3 => length >= 21,
         4 => length == 19,

@@ -63,7 +63,7 @@ fn envelopes(put: Put, subtype: u16, family: u16) {
                 all_about(put, &make::record(16, subtype, &body[..cut]));
             }
         }
-        for length in [18, 4_095, 4_096, 4_097, 65_534, 65_535] {
+        for length in [18, 27, 28, 29, 30, 4_095, 4_096, 4_097, 65_534, 65_535] {
             all_about(put, &make::record(17, subtype, &make::message_body(subtype, family, bgp, length)));
         }
     }

@@ -45,19 +45,21 @@ fn long_rows() -> [Row; 2] {
 }
 
 /// Differences that show only while the crate's own parsers are in place of 01's body check.
-fn own_parser_rows() -> [Row; 5] {
+fn own_parser_rows() -> [Row; 6] {
     let refused = make::header(0, 32, 0, 0);
     let in_envelope = [make::header(0, 16, 0, 9), vec![0, 1, 0, 2, 0, 0, 0, 1, 10]].concat();
     let in_table = make::record(13, 1, &make::peer_table(&[], 1, &[0; 6]));
     let mut longer = make::state_change_body(0, 1);
     longer.push(0);
     let short_open = [vec![0, 1, 0, 2], make::bgp_message(1, 29)].concat();
+    let least_message = make::record(16, 1, &make::message_body(1, 1, 1, 19));
     [
         own_row("own_parser_takes_a_cut_address_for_a_failed_read", &[&refused[..], &in_envelope].concat()),
         own_row("own_parser_takes_a_cut_address_for_a_failed_read", &[&refused[..], &in_table].concat()),
         own_row("own_parser_leaves_octets_of_a_state_change", &make::record(16, 0, &longer)),
         own_row("own_parser_knows_the_short_state_change", &make::record(16, 0, &[0, 1, 0, 2, 0, 1, 0, 2])),
         own_row("own_parser_knows_the_short_open", &make::record(16, 1, &short_open)),
+        own_row("own_check_of_the_scan_has_no_least_open", &[vec![0], least_message.repeat(3)].concat()),
     ]
 }
 

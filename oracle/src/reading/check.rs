@@ -86,14 +86,14 @@ fn after_addresses(width: usize, body: &[u8]) -> Option<&[u8]> {
     body.get(family + 2 + 2 * address..)
 }
 
-/// One BGP message that fills the octets (RFC 4271, 4.1).
+/// One BGP message that fills the octets (RFC 4271, 4.1). The least OPEN has 29 (4.2; 02, wish 2).
 #[inline]
 fn is_message(octets: &[u8]) -> bool {
     if octets.len() < 19 || octets[..16] != [255; 16] || usize::from(be16(octets, 16)) != octets.len() {
         return false;
     }
     match octets[18] {
-        1 => octets.len() <= 4_096,
+        1 => octets.len() >= 29 && octets.len() <= 4_096,
         2 => octets.len() >= 23,
         3 => octets.len() >= 21,
         4 => octets.len() == 19,

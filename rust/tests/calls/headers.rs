@@ -1,6 +1,6 @@
 //! Headers, frames, judged records, and candidates.
 
-use crate::{Random, keepalive, record, state_change};
+use crate::{Random, keepalive, message, record, state_change};
 use mrt::{Candidate, Evidence, Family, Frame, Header, NewHeader, Record, Refusal, StoredLength, check_body};
 
 /// Every call that reads at an offset gives this refusal.
@@ -108,6 +108,8 @@ fn both_sides_of_the_body_checks() {
     let check = |body: &[u8], kind, subtype| check_body(body, kind, subtype, StoredLength(body.len() as u32));
     assert_eq!(check(&keepalive(0, 19)[16..], 17, 1), Ok(()));
     assert_eq!(check(&keepalive(0, 20)[16..], 17, 1), Err(Refusal::BodyNotMet));
+    assert_eq!(check(&message(0, 1, 28)[16..], 17, 1), Err(Refusal::BodyNotMet));
+    assert_eq!(check(&message(0, 1, 29)[16..], 17, 1), Ok(()));
     assert_eq!(check(&state_change()[12..], 16, 0), Ok(()));
     assert_eq!(check(&[&state_change()[12..], &[0]].concat(), 16, 0), Err(Refusal::BodyNotMet));
     assert_eq!(check(&[0; 12], 5, 7), Ok(()));

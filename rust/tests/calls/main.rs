@@ -22,14 +22,18 @@ fn state_change() -> Vec<u8> {
     record(16, 0, &[0, 1, 0, 2, 0, 0, 0, 1, 192, 0, 2, 1, 192, 0, 2, 2, 0, 5, 0, 6])
 }
 
-/// A KEEPALIVE of so many octets between two IPv4 neighbours, behind microseconds.
-fn keepalive(micros: u32, length: u8) -> Vec<u8> {
+/// A BGP message of this type and so many octets between two IPv4 neighbours, behind microseconds.
+fn message(micros: u32, bgp: u8, length: u8) -> Vec<u8> {
     let mut body = micros.to_be_bytes().to_vec();
     body.extend([0, 1, 0, 2, 0, 0, 0, 1, 192, 0, 2, 1, 192, 0, 2, 2]);
     body.extend([255; 16]);
-    body.extend([0, length, 4]);
+    body.extend([0, length, bgp]);
     body.resize(20 + usize::from(length), 0);
     record(17, 1, &body)
+}
+
+fn keepalive(micros: u32, length: u8) -> Vec<u8> {
+    message(micros, 4, length)
 }
 
 /// Numbers that look random and are the same in every run.

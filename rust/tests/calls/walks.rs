@@ -1,6 +1,6 @@
 //! Walks: what each answers, and that it covers the stream whatever the damage.
 
-use crate::{Random, keepalive, record, state_change};
+use crate::{Random, keepalive, message, record, state_change};
 use mrt::{Evidence, Gap, Item, Options, Record, Refusal, Walk};
 
 fn options(window: usize, confirmations: u8) -> Options {
@@ -89,6 +89,13 @@ fn a_framed_record_that_is_refused_is_skipped_alone() {
     let stream = [state_change(), record(13, 1, &[0; 7]), state_change()].concat();
     assert_eq!(gaps(&stream, Options::new()), [(32, 51, 7, 4, 1)]);
     assert_eq!(gaps(&stream[..51], Options::new()), [(32, 51, 7, 4, 0)]);
+}
+
+#[test]
+fn an_open_of_28_octets_is_refused_and_no_scan_takes_it_up() {
+    let (short, open) = (message(0, 1, 28), message(0, 1, 29));
+    assert_eq!(gaps(&[&short[..], &open].concat(), options(200, 1)), [(0, 60, 7, 4, 1)]);
+    assert_eq!(gaps(&[&[255; 12][..], &short, &open].concat(), options(200, 1)), [(0, 72, 2, 2, 1)]);
 }
 
 #[test]

@@ -78,10 +78,11 @@ fn state_changes(put: Put, subtype: u16) {
     }
 }
 
-/// The shortest message of each type, with an octet fewer and one more, as the length says and not.
+/// The shortest message of each type and an OPEN of a header alone, with an octet fewer and one more, as the length says
+/// and not.
 fn messages(put: Put, subtype: u16) {
     let kinds: &[(u8, u16)] =
-        if subtype == 1 { &[(0, 19), (1, 19), (2, 23), (3, 21), (4, 19), (5, 19)] } else { &[(4, 19)] };
+        if subtype == 1 { &[(0, 19), (1, 19), (1, 29), (2, 23), (3, 21), (4, 19), (5, 19)] } else { &[(4, 19)] };
     for &(bgp, length) in kinds {
         for length in [length - 1, length, length + 1] {
             let mut body = make::message_body(subtype, 1, bgp, length);

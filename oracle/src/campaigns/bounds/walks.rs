@@ -33,6 +33,8 @@ fn streams() -> Vec<Vec<u8>> {
     let dump = make::record(12, 1, &make::table_dump(1, 24, &[]));
     let wide = make::record(12, 2, &make::table_dump(2, 64, &[7]));
     let cut = make::record(12, 1, &make::table_dump(1, 24, &[])[..21]);
+    let open = make::record(16, 1, &make::message_body(1, 1, 1, 29));
+    let short = make::record(16, 1, &make::message_body(1, 1, 1, 28));
     vec![
         Vec::new(),
         [&state[..], &broken, &state].concat(),
@@ -48,6 +50,8 @@ fn streams() -> Vec<Vec<u8>> {
         [&broken[..], &dump, &wide, &dump[..dump.len() - 1]].concat(),
         [&torn[..], &dump, &dump, &dump].concat(),
         [&cut[..], &torn, &wide, &state, &state].concat(),
+        [&open[..], &short, &open].concat(),
+        [&torn[..], &short, &open, &state].concat(),
     ]
 }
 
