@@ -28,9 +28,9 @@ within-most : (b : Bounds) (n : ℕ) → within b n ≡ true → n ≤ b .high
 within-most b n h = leb-true n (b .high) (second (leb (b .low) n) (leb n (b .high)) h)
 
 -- whichever of two bounds a test chooses
-either-most : (m : ℕ) (t : Bool) (x y : Bounds) → x .high ≤ m → y .high ≤ m → cond t x y .high ≤ m
-either-most m true x y l k = l
-either-most m false x y l k = k
+either-most : {m : ℕ} (t : Bool) (x y : Bounds) → x .high ≤ m → y .high ≤ m → cond t x y .high ≤ m
+either-most true x y l k = l
+either-most false x y l k = k
 
 -- a message that passes is no longer than its type may be
 message-most : (l : List ℕ) → message l ≡ true → length l ≤ messageBounds (getD l 18 0) .high
@@ -95,11 +95,11 @@ module _ (m : ℕ) (states : 4 ≤ m) (most : (t : ℕ) → messageBounds t .hig
 message-high : (t : ℕ) → messageBounds t .high ≤ 65535
 unfolding messageBounds
 message-high t =
-    either-most _ (eqb t 1) _ _ (omega arith)
-    (either-most _ (eqb t 2) _ _ (omega arith)
-    (either-most _ (eqb t 3) _ _ (omega arith) (either-most _ (eqb t 4) _ _ (omega arith) (omega arith))))
+    either-most (eqb t 1) _ _ (omega arith)
+    (either-most (eqb t 2) _ _ (omega arith)
+    (either-most (eqb t 3) _ _ (omega arith) (either-most (eqb t 4) _ _ (omega arith) (omega arith))))
 
--- THEOREM. The largest body of types 16 and 17 that passes has 65,579 octets: 44, and a message of 65,535.
+-- THEOREM. No body of types 16 and 17 that passes has more than 65,579 octets: 44, and a message of 65,535.
 pub bgp4mp-most : (u : ℕ) (b : List ℕ) → bgp4mp u b ≡ 0 → length b ≤ 65579
 bgp4mp-most = body-most 65535 (omega arith) message-high
 
@@ -117,12 +117,12 @@ stored-most u n = by-tests (ltb (legacyBounds u .high) (legacyBounds u .low)) (w
 legacy-high : (u : ℕ) → legacyBounds u .high ≤ 65535
 unfolding legacyBounds
 legacy-high u =
-    either-most _ (eqb u 1) _ _ (omega arith)
-    (either-most _ (eqb u 3) _ _ (omega arith)
-    (either-most _ (eqb u 5) _ _ (omega arith)
-    (either-most _ (eqb u 6) _ _ (omega arith) (either-most _ (eqb u 7) _ _ (omega arith) (omega arith)))))
+    either-most (eqb u 1) _ _ (omega arith)
+    (either-most (eqb u 3) _ _ (omega arith)
+    (either-most (eqb u 5) _ _ (omega arith)
+    (either-most (eqb u 6) _ _ (omega arith) (either-most (eqb u 7) _ _ (omega arith) (omega arith)))))
 
--- THEOREM. The largest body of type 5 that passes has 65,535 octets.
+-- THEOREM. No body of type 5 that passes has more than 65,535 octets.
 pub legacy-most : (u n : ℕ) → legacy u n ≡ 0 → n ≤ 65535
 legacy-most u n h = let p = stored-most u n h in let q = legacy-high u in omega arith
 
@@ -130,7 +130,7 @@ legacy-most u n h = let p = stored-most u n h in let q = legacy-high u in omega 
 pub largest : List ℕ
 largest = replicate 11 0 ++ (2 ∷ []) ++ replicate 32 0 ++ replicate 18 255 ++ (2 ∷ []) ++ replicate 65516 0
 
--- THEOREM. A body of 65,579 octets passes: that is the largest.
+-- THEOREM. A body of 65,579 octets passes.
 pub largest-passes : Octets largest × (length largest ≡ 65579) × (bgp4mp 4 largest ≡ 0)
 unfolding largest upTo bgp4mp asSize asSizes envelope addressSize tail stateChange message messageBounds beAt ones
 largest-passes = (λ i. let h = getD-most 255 largest i refl in omega arith, refl, refl)

@@ -56,14 +56,14 @@ fn legacy_lengths(put: Put) {
 /// Messages of every type and of lengths around the shortest, cut at every octet and with one octet too many.
 fn envelopes(put: Put, subtype: u16, family: u16) {
     for bgp in 0..=5 {
-        for length in 19..=24 {
+        for length in (19..=24).chain(28..=30) {
             let mut body = make::message_body(subtype, family, bgp, length);
             body.push(0);
             for cut in 0..=body.len() {
                 all_about(put, &make::record(16, subtype, &body[..cut]));
             }
         }
-        for length in [18, 27, 28, 29, 30, 4_095, 4_096, 4_097, 65_534, 65_535] {
+        for length in [18, 4_095, 4_096, 4_097, 65_534, 65_535] {
             all_about(put, &make::record(17, subtype, &make::message_body(subtype, family, bgp, length)));
         }
     }
