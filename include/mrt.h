@@ -10,7 +10,7 @@
  *
  *    1  the header runs past the stream          7  the body check is not met
  *    2  the type is unknown                      8  an index, offset, count or length beyond what exists
- *    3  type 17 with a wire length under 4       9  too few places or too little output room
+ *    3  type 17, 33, 49: wire length under 4     9  too few places or too little output room
  *    4  the body runs past the stream           10  a value does not fit its field
  *    5  the type is not carried                 11  the scan's window is exhausted
  *    6  the subtype is not carried
@@ -81,8 +81,9 @@ typedef struct mrt_peer {
 } mrt_peer;
 
 /*
- * The header at the offset `at` of the stream `s`.
- * Values: timestamp, type, subtype, wire length, stored length, microseconds. Refusals: 8, 1, 2, 3, 1, 9.
+ * The header at the offset `at` of the stream `s`. Types 17, 33 and 49 have four octets of microseconds, which their wire length
+ * counts and their stored length does not: 3 is a wire length under 4, and the second 1 a header that is cut before them.
+ * Values: timestamp, type, subtype, wire length, stored length, microseconds, 0 for any other type. Refusals: 8, 1, 2, 3, 1, 9.
  */
 uint32_t mrt_read_header(const uint8_t *s, size_t s_len, size_t at, uint64_t *out, size_t out_len);
 
@@ -99,8 +100,8 @@ uint32_t mrt_frame(const uint8_t *s, size_t s_len, size_t at, uint64_t *out, siz
 uint32_t mrt_judge(const uint8_t *s, size_t s_len, size_t at, uint64_t *out, size_t out_len);
 
 /*
- * Writes a header at the front of `out`: 16 octets for type 17 and 12 for any other. `stored` is the length of the body alone.
- * Refusals: 2, 10, 9.
+ * Writes a header at the front of `out`: 16 octets for types 17, 33 and 49 and 12 for any other. `stored` is the length of the body
+ * alone. Refusals: 2, 10, 9; 10 is `micros` other than 0 for any other type, or of those three a `stored` above 4294967291.
  */
 mrt_written mrt_write_header(uint8_t *out, size_t out_len, uint32_t timestamp, uint16_t type, uint16_t subtype, uint32_t stored,
                              uint32_t micros);

@@ -1,10 +1,12 @@
 //! The known differences between the crate and 01, each a predicate named after the difference.
 
 use crate::answers::{Address, Event, Peer};
+use crate::make;
 use crate::oracle::TOO_LARGE;
 use crate::question::{Question, Reply};
 use crate::reading;
 use crate::subject::{NewTable, Reading};
+use crate::untimed;
 
 /// Whether a difference explains that the crate and the reading replied as they did.
 type Explains = fn(&Question, &Reply, &Reply) -> bool;
@@ -23,9 +25,12 @@ const KNOWN: [(&str, Explains); 11] = [
     ("path_number_is_dropped_silently", path_number_is_dropped_silently),
 ];
 
+/// The one difference that changes how a stream is read on: it may come together with any of the others.
+const LEFT_IN_THE_BODY: &str = "microseconds_of_33_and_49_are_left_in_the_body";
+
 /// The names of all known differences.
 pub fn names() -> impl Iterator<Item = &'static str> {
-    KNOWN.iter().map(|&(name, _)| name)
+    std::iter::once(LEFT_IN_THE_BODY).chain(KNOWN.iter().map(|&(name, _)| name))
 }
 
 /// Whether the crate may have nothing to say: it has no offsets, slots or lent output of the caller's, and no walk but
@@ -56,17 +61,32 @@ pub fn may_be_silent(question: &Question, of_reading: &Reply) -> bool {
     }
 }
 
-/// The name of the difference that explains the two replies.
+/// The name of the difference that explains the two replies. The crate's is to be the one without microseconds of types
+/// 33 and 49, or to differ from that one as it does elsewhere.
 pub fn difference(question: &Question, of_crate: &Reply, of_reading: &Reply) -> Option<&'static str> {
+    let Some(plain) = untimed::stream(question) else {
+        return another(question, of_crate, of_reading);
+    };
+    let asked_so = question.with_input(&plain)?;
+    let without = untimed::reply(question, &asked_so)?;
+    let why = another(&asked_so, of_crate, &without);
+    if without == *of_reading {
+        return why;
+    }
+    (without == *of_crate || why.is_some()).then_some(LEFT_IN_THE_BODY)
+}
+
+fn another(question: &Question, of_crate: &Reply, of_reading: &Reply) -> Option<&'static str> {
     KNOWN.iter().find(|(_, explains)| explains(question, of_crate, of_reading)).map(|&(name, _)| name)
 }
 
-/// A type 17 header whose length and 4 together pass 2^32 - 1: the crate's sum turns over, 01 says 10.
+/// A length that does not fit with its microseconds: the crate's sum of it and 4 turns over, 01 says 10.
 fn header_length_turns_over(question: &Question, of_crate: &Reply, of_reading: &Reply) -> bool {
     let Question::HeaderWrite { header, .. } = question else {
         return false;
     };
-    header.kind == 17 && header.stored > 4_294_967_291 && refusal(of_crate) == 0 && refusal(of_reading) == 10
+    let timed = make::TIMED.contains(&header.kind);
+    timed && header.stored > 4_294_967_291 && refusal(of_crate) == 0 && refusal(of_reading) == 10
 }
 
 fn refusal(reply: &Reply) -> u8 {

@@ -21,3 +21,4 @@ pub mod sample;
 pub mod subject;
 pub mod tears;
 pub mod text;
+pub mod untimed;

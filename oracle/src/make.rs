@@ -2,6 +2,8 @@
 
 use crate::random::Random;
 
+/// The types whose header has microseconds.
+pub const TIMED: [u16; 3] = [17, 33, 49];
 pub const STATE_CHANGES: [u16; 2] = [0, 5];
 pub const MESSAGES: [u16; 8] = [1, 4, 6, 7, 8, 9, 10, 11];
 pub const RIBS: [u16; 8] = [2, 3, 4, 5, 8, 9, 10, 11];
@@ -16,15 +18,16 @@ pub fn header(timestamp: u32, kind: u16, subtype: u16, wire: u32) -> Vec<u8> {
     out
 }
 
-/// A record with a right length. Type 17 gets its microseconds.
+/// A record with a right length. A type with microseconds gets them.
 pub fn record(kind: u16, subtype: u16, body: &[u8]) -> Vec<u8> {
     timed_record(kind, subtype, 7, body)
 }
 
 pub fn timed_record(kind: u16, subtype: u16, micros: u32, body: &[u8]) -> Vec<u8> {
-    let extra = if kind == 17 { 4 } else { 0 };
+    let timed = TIMED.contains(&kind);
+    let extra = if timed { 4 } else { 0 };
     let mut out = header(0x4800_0000, kind, subtype, (body.len() + extra) as u32);
-    if kind == 17 {
+    if timed {
         out.extend_from_slice(&micros.to_be_bytes());
     }
     out.extend_from_slice(body);
@@ -176,6 +179,14 @@ fn bad_open(random: &mut Random) -> Vec<u8> {
     timed_record(random.pick(&[16, 17]), subtype, 5, &body)
 }
 
+/// A type with microseconds and a wire length under 4, with as many octets behind it or none.
+fn short_length(random: &mut Random) -> Vec<u8> {
+    let wire = random.below(4);
+    let mut out = header(0, random.pick(&TIMED), 0, wire as u32);
+    out.extend(vec![0; random.pick(&[0, wire])]);
+    out
+}
+
 /// A record that is framed and refused with 5, 6 or 7, or one that is not framed.
 pub fn bad_record(random: &mut Random) -> Vec<u8> {
     let length = random.below(40);
@@ -185,7 +196,7 @@ pub fn bad_record(random: &mut Random) -> Vec<u8> {
         1 => record(random.pick(&[5, 12, 13, 16, 17]), random.pick(&[2, 3, 6, 7, 12, 99]), &body),
         2 => record(random.pick(&[5, 12, 13, 16, 17]), random.below(12) as u16, &body),
         3 => record(random.pick(&[14, 15, 18, 255, 256, 65_535]), 0, &body),
-        4 => header(0, 17, 0, random.below(4) as u32),
+        4 => short_length(random),
         5 => bad_table_dump(random),
         6 => bad_open(random),
         _ => header(0, random.pick(&[5, 12, 13, 16, 17, 32]), 1, random.pick(&[100, 70_000, 1 << 24, u32::MAX])),

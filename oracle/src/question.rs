@@ -199,6 +199,7 @@ impl Question<'_> {
             Question::Walk { window, asked, .. } => Some(Question::Walk { stream: input, window, asked }),
             Question::Causes { window, asked, .. } => Some(Question::Causes { stream: input, window, asked }),
             Question::Step { walk, window, asked, .. } => Some(Question::Step { stream: input, walk, window, asked }),
+            Question::HeaderRead { at, .. } => Some(Question::HeaderRead { stream: input, at }),
             Question::Judge { at, .. } => Some(Question::Judge { stream: input, at }),
             Question::Frame { at, .. } => Some(Question::Frame { stream: input, at }),
             Question::RibRead { subtype, .. } => Some(Question::RibRead { subtype, body: input }),

@@ -15,18 +15,14 @@ const KEPT: usize = 2;
 /// One question in so many is looked at, so that neighbours do not fill the list.
 const ONE_IN: usize = 7;
 
+#[derive(Default)]
 pub struct Sample {
-    random: Random,
     all: Vec<(u8, String)>,
     seen: BTreeSet<String>,
     ways: BTreeMap<String, usize>,
 }
 
 impl Sample {
-    pub fn new(seed: u64) -> Self {
-        Sample { random: Random::new(seed), all: Vec::new(), seen: BTreeSet::new(), ways: BTreeMap::new() }
-    }
-
     /// Keeps a question's lines, each once.
     pub fn keep(&mut self, question: &Question) {
         for (call, line) in asked::lines(question) {
@@ -38,8 +34,8 @@ impl Sample {
 
     /// Keeps a question's lines where it is small and its way to answer is not yet there often enough. The first letter
     /// of a line, who answered it, is a part of the way.
-    pub fn offer(&mut self, question: &Question) {
-        if !is_small(question) || !self.random.once_in(ONE_IN) {
+    pub fn offer(&mut self, question: &Question, choice: &mut Random) {
+        if !is_small(question) || !choice.once_in(ONE_IN) {
             return;
         }
         let Some(reply) = question.put_to(&Reading) else {

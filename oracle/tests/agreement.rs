@@ -17,7 +17,7 @@ fn the_crate_and_the_reading_agree() {
 }
 
 /// What each row of the known differences says, the crate before the reading.
-const ROWS: [(&str, &str, &str); 18] = [
+const ROWS: [(&str, &str, &str); 24] = [
     (
         "cut_body_is_named_before_the_unknown_type",
         "G 0 12 4 5 0 (Error: truncated MRT body: expected 129 bytes, read 0) | E 12",
@@ -43,6 +43,36 @@ const ROWS: [(&str, &str, &str); 18] = [
         "body_above_16_mib",
         "X 0 1048576 100 (Error: MRT message too large: 16777217 bytes)",
         "R 0 16777229 13 2 | E 16777229",
+    ),
+    (
+        "microseconds_of_33_and_49_are_left_in_the_body",
+        "refusal 0, stored length 4, microseconds 0",
+        "refusal 0, stored length 0, microseconds 1",
+    ),
+    (
+        "microseconds_of_33_and_49_are_left_in_the_body",
+        "G 0 12 5 4 0 (Error: unsupported MRT type: ISIS_ET) | E 12",
+        "G 0 12 3 5 0 | E 12",
+    ),
+    (
+        "microseconds_of_33_and_49_are_left_in_the_body",
+        "G 0 12 4 5 0 (Error: truncated MRT body: expected 4 bytes, read 0) | E 12",
+        "G 0 12 1 5 0 | E 12",
+    ),
+    (
+        "microseconds_of_33_and_49_are_left_in_the_body",
+        "refusal 0, stored length 4, microseconds 0",
+        "refusal 0, stored length 0, microseconds 1",
+    ),
+    (
+        "microseconds_of_33_and_49_are_left_in_the_body",
+        "G 0 12 5 4 0 (Error: unsupported MRT type: OSPFv3_ET) | E 12",
+        "G 0 12 3 5 0 | E 12",
+    ),
+    (
+        "microseconds_of_33_and_49_are_left_in_the_body",
+        "G 0 12 4 5 0 (Error: truncated MRT body: expected 4 bytes, read 0) | E 12",
+        "G 0 12 1 5 0 | E 12",
     ),
     (
         "own_parser_takes_a_cut_address_for_a_failed_read",

@@ -40,6 +40,23 @@ fn headers_on_both_sides() {
     }
 }
 
+/// Document 02, wish 1. The crate has no answer to this: it reads both types without microseconds.
+#[test]
+fn types_33_and_49_have_microseconds() {
+    let state = make::record(16, 0, &make::state_change_body(0, 1));
+    for kind in [33, 49] {
+        let lines = |stream: &[u8]| walk(&Reading, stream, 1 << 20, 1).iter().map(Event::line).collect::<Vec<_>>();
+        let whole = [make::timed_record(kind, 0, 1_000_000, &[7]), state.clone()].concat();
+        let header = Reading.header_read(&whole, 0).expect("the reading answers all").value;
+        assert_eq!((header.wire, header.stored, header.micros), (5, 1, 1_000_000));
+        assert_eq!(lines(&whole), ["G\t0\t17\t5\t4\t1", "R\t17\t49\t16\t0", "E\t49"]);
+        let short = [make::header(0, kind, 0, 3), vec![0; 3], state.clone()].concat();
+        assert_eq!(lines(&short), ["G\t0\t15\t3\t3\t1", "R\t15\t47\t16\t0", "E\t47"]);
+        let cut = [state.clone(), make::header(0, kind, 0, 4), vec![0; 3]].concat();
+        assert_eq!(lines(&cut), ["R\t0\t32\t16\t0", "G\t32\t47\t1\t5\t0", "E\t47"]);
+    }
+}
+
 #[test]
 fn peer_tables_on_both_sides() {
     for subject in BOTH {

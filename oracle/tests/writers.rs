@@ -5,8 +5,8 @@ use mrt_oracle::reading;
 
 #[test]
 fn headers_read_back() {
-    for (kind, micros) in [(13, 0), (17, 1_000_000), (33, 0)] {
-        let header = Header { timestamp: 1, kind, subtype: 2, wire: if kind == 17 { 9 } else { 5 }, stored: 5, micros };
+    for (kind, wire, micros) in [(13, 5, 0), (17, 9, 1_000_000), (33, 9, 1), (48, 5, 0), (49, 9, u32::MAX)] {
+        let header = Header { timestamp: 1, kind, subtype: 2, wire, stored: 5, micros };
         let mut out = [0xaa; 16];
         assert_eq!(reading::write_header(&mut out, &header).refusal, 0);
         assert_eq!(reading::read_header(&out, 0).value, header);

@@ -206,7 +206,9 @@ fn words((kind, subtype): (u16, u16)) -> String {
         16 => "BGP4MP",
         17 => "BGP4MP_ET",
         32 => "ISIS",
+        33 => "ISIS_ET",
         48 => "OSPFv3",
+        49 => "OSPFv3_ET",
         _ => "",
     };
     let subtypes: &[&str] = match kind {

@@ -2,7 +2,7 @@
 
 use crate::{PeerIndex, Refusal, Rib, TableDump, boundary, part};
 
-/// A length as the header has it on the wire. For type 17 it counts the four octets of microseconds.
+/// A length as the header has it on the wire. For types 17, 33 and 49 it counts the four octets of microseconds.
 #[derive(Debug, Clone, Copy, PartialEq, Eq, PartialOrd, Ord, Hash)]
 pub struct WireLength(pub u32);
 
@@ -24,7 +24,7 @@ pub struct Header {
     pub wire: WireLength,
     /// The length of the body.
     pub stored: StoredLength,
-    /// The microseconds of type 17, also of 1,000,000 and more; 0 for every other type.
+    /// The microseconds of types 17, 33 and 49, also of 1,000,000 and more; 0 for every other type.
     pub micros: u32,
 }
 
@@ -74,17 +74,18 @@ pub struct NewHeader {
     pub subtype: u16,
     /// The length of the body.
     pub stored: StoredLength,
-    /// The microseconds, 0 for a type other than 17.
+    /// The microseconds, 0 for a type other than 17, 33 and 49.
     pub micros: u32,
 }
 
 impl NewHeader {
-    /// Writes the header at the front of the output, and says how many octets it takes: 16 for type 17, else 12.
+    /// Writes the header at the front of the output, and says how many octets it takes: 16 for types 17, 33 and 49, else
+    /// 12.
     ///
     /// # Errors
     ///
-    /// [`Refusal::UnknownType`]; [`Refusal::TooLarge`] for microseconds that have no place, or a stored length of type 17
-    /// above 4,294,967,291; [`Refusal::NoRoom`].
+    /// [`Refusal::UnknownType`]; [`Refusal::TooLarge`] for microseconds that have no place, or where they have one a
+    /// stored length above 4,294,967,291; [`Refusal::NoRoom`].
     ///
     /// ```
     /// use mrt::{Header, NewHeader, Refusal, StoredLength};

@@ -18,11 +18,11 @@ use core::fmt;
 #[derive(Debug, Clone, Copy, PartialEq, Eq, PartialOrd, Ord, Hash)]
 #[repr(u8)]
 pub enum Refusal {
-    /// 1: under 12 octets are left, or under 16 for type 17, which has microseconds.
+    /// 1: under 12 octets are left, or under 16 for types 17, 33 and 49, which have microseconds.
     TruncatedHeader = 1,
     /// 2: the type is not one of 0 to 13, 16, 17, 32, 33, 48, 49.
     UnknownType = 2,
-    /// 3: type 17, whose wire length counts four octets of microseconds, with a wire length under 4.
+    /// 3: type 17, 33 or 49, whose wire length counts four octets of microseconds, with a wire length under 4.
     ShortLength = 3,
     /// 4: the body runs past the stream.
     TruncatedBody = 4,

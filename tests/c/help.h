@@ -73,6 +73,13 @@ static inline size_t put(uint8_t *to, size_t at, size_t n, uint64_t v) {
     return at + n;
 }
 
+static inline int known(uint64_t type) {
+    return type <= 13 || type == 16 || type == 17 || type == 32 || type == 33 || type == 48 || type == 49;
+}
+
+/* Whether a header of this type has microseconds. */
+static inline int timed(uint64_t type) { return type == 17 || type == 33 || type == 49; }
+
 /* Whether n octets are these. Of none, whether there are none. */
 static inline int same(const void *a, const void *b, size_t n) { return !n || !memcmp(a, b, n); }
 

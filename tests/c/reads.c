@@ -55,10 +55,6 @@ static uint64_t be(const uint8_t *p, size_t n) {
     return v;
 }
 
-static int known(uint64_t type) {
-    return type <= 13 || type == 16 || type == 17 || type == 32 || type == 33 || type == 48 || type == 49;
-}
-
 /* The frame at an offset by the paper: the number, and all values where that is 0. */
 static uint32_t by_paper(const uint8_t *s, size_t n, size_t at, uint64_t *v, int body) {
     if (n < at) {
@@ -78,7 +74,7 @@ static uint32_t by_paper(const uint8_t *s, size_t n, size_t at, uint64_t *v, int
     if (!known(v[1])) {
         return 2;
     }
-    if (v[1] == 17) {
+    if (timed(v[1])) {
         if (v[3] < 4) {
             return 3;
         }
@@ -102,11 +98,11 @@ static const uint8_t stream[83] = {
 };
 
 /* A type 17 record with four octets of body, an unknown type, the largest length, and a type 17 wire length of 3. */
-static const uint8_t oddments[52] = {
+static const uint8_t oddments[56] = {
     1, 2, 3, 4, 0, 17, 0, 0, 0, 0, 0, 8, 255, 255, 255, 255, 1, 2, 3, 4,
     0, 0, 0, 0, 0, 14, 0, 0, 0, 0, 0, 0,
     255, 255, 255, 255, 0, 49, 255, 255, 255, 255, 255, 255,
-    0, 0, 0, 0, 0, 17, 0, 3,
+    0, 0, 0, 0, 0, 17, 0, 0, 0, 0, 0, 3,
 };
 
 /* Headers and frames at each offset of each beginning of a stream, and at offsets beyond it. */
@@ -126,6 +122,17 @@ static void headers(const uint8_t *whole, size_t most) {
             }
         }
         free(s);
+    }
+}
+
+/* Each type with microseconds and the one before it, with lengths on both sides of their four octets. */
+static void timed_headers(void) {
+    const uint8_t types[] = {16, 17, 32, 33, 48, 49}, lengths[] = {0, 3, 4, 5, 8, 255};
+    for (size_t i = 0; i < sizeof types; i++) {
+        for (size_t j = 0; j < sizeof lengths; j++) {
+            uint8_t s[21] = {1, 2, 3, 4, 0, types[i], 0, 7, 0, 0, 0, lengths[j], 255, 254, 253, 252, 9, 8, 7, 6, 5};
+            headers(s, sizeof s);
+        }
     }
 }
 
@@ -361,6 +368,7 @@ static void ages(void) {
 int main(void) {
     headers(stream, sizeof stream);
     headers(oddments, sizeof oddments);
+    timed_headers();
     judgements();
     walks();
     tables();

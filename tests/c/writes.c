@@ -13,13 +13,9 @@ static void wrote(const char *what, mrt_written got, const uint8_t *out, const u
     expect(same(out, want, len), what, len, size);
 }
 
-static int known(uint64_t type) {
-    return type <= 13 || type == 16 || type == 17 || type == 32 || type == 33 || type == 48 || type == 49;
-}
-
 /* One header with each room up to one octet too much. */
 static void header_written(uint32_t time, uint16_t type, uint16_t subtype, uint32_t stored, uint32_t micros, uint32_t number) {
-    size_t size = type == 17 ? 16 : 12;
+    size_t size = timed(type) ? 16 : 12;
     for (size_t len = 0; len <= 17; len++) {
         uint8_t *out = untouched(len), want[17];
         memset(want, UNTOUCHED, sizeof want);
@@ -39,12 +35,14 @@ static void header_written(uint32_t time, uint16_t type, uint16_t subtype, uint3
 static void headers_written(void) {
     for (uint32_t type = 0; type <= 60; type++) {
         header_written(1, (uint16_t)type, 2, 3, 0, known(type) ? 0 : 2);
-        header_written(1, (uint16_t)type, 2, 3, 1, !known(type) ? 2 : type == 17 ? 0 : 10);
+        header_written(1, (uint16_t)type, 2, 3, 1, !known(type) ? 2 : timed(type) ? 0 : 10);
     }
     header_written(UINT32_MAX, 16, UINT16_MAX, UINT32_MAX, 0, 0);
-    header_written(UINT32_MAX, 17, UINT16_MAX, 4294967291u, UINT32_MAX, 0);
-    header_written(0, 17, 0, 4294967292u, 0, 10);
-    header_written(0, 17, 0, UINT32_MAX, UINT32_MAX, 10);
+    for (uint16_t type = 17; type <= 49; type += 16) {
+        header_written(UINT32_MAX, type, UINT16_MAX, 4294967291u, UINT32_MAX, 0);
+        header_written(0, type, 0, 4294967292u, 0, 10);
+        header_written(0, type, 0, UINT32_MAX, UINT32_MAX, 10);
+    }
     header_written(UINT32_MAX, UINT16_MAX, UINT16_MAX, UINT32_MAX, UINT32_MAX, 2);
 }
 

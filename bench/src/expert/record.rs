@@ -5,6 +5,8 @@ use mrt_oracle::answers::Header;
 
 /// Bit k is set where type k is known: 0 to 13, 16, 17, 32, 33, 48, 49.
 const KNOWN: u64 = 0x0003_0003_0003_3fff;
+/// Bit k is set where the header of type k has microseconds: 17, 33, 49.
+const TIMED: u64 = 0x0002_0002_0002_0000;
 /// The octets of an AS number by subtype of types 16 and 17, 0 where the subtype is not carried.
 const AS_SIZES: [u8; 12] = [2, 2, 0, 0, 4, 4, 2, 4, 2, 4, 2, 4];
 
@@ -41,7 +43,7 @@ pub fn judge(stream: &[u8], at: usize) -> Verdict {
         Ok(header) => header,
         Err(refusal) => return Verdict::Cut(refusal),
     };
-    let size = if header.kind == BGP4MP_ET { 16 } else { 12 };
+    let size = if is_timed(header.kind) { 16 } else { 12 };
     let stored = header.stored as usize;
     let Some(body) = rest.get(size..size + stored) else {
         return Verdict::Cut(4);
@@ -51,6 +53,12 @@ pub fn judge(stream: &[u8], at: usize) -> Verdict {
         0 => Verdict::Fit(Record { header, body: at + size, end }),
         refusal => Verdict::Off { refusal, end },
     }
+}
+
+/// Whether the header of a known type has microseconds.
+#[inline(always)]
+fn is_timed(kind: u16) -> bool {
+    TIMED >> kind & 1 != 0
 }
 
 /// The header at the front of what is left.
@@ -65,7 +73,7 @@ pub fn header(rest: &[u8]) -> Result<Header, u8> {
         return Err(2);
     }
     let (mut stored, mut micros) = (wire, 0);
-    if kind == BGP4MP_ET {
+    if is_timed(kind) {
         stored = wire.checked_sub(4).ok_or(3)?;
         let Some(front) = rest.first_chunk::<16>() else {
             return Err(1);

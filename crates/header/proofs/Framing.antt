@@ -15,9 +15,11 @@ use Rattle.header.specs.Read.{Heading, refused, accepted, header, header
 use Rattle.header.specs.Frame.{Framing, unframed, framed, frame, frameOf, frameAt}
 use Rattle.header.proofs.KnownTypes.{size-timed, size-plain}
 
--- a header that is read is there whole and its type is known; only refusal 1 is for want of octets
+-- a header that is read is there whole, its type is known, and the wire length counts from the twelfth octet on; only refusal 1
+-- is for want of octets
 pub record HeaderOk (b : Bool) (m : ℕ) (h : Heading) : Type 0 where
   pub whole : h .number ≡ 0 → size (h .kind) ≤ m
+  pub counted : h .number ≡ 0 → size (h .kind) + h .stored ≡ 12 + h .wire
   pub known-type : h .number ≡ 0 → known (h .kind) ≡ true
   pub most : h .number ≤ 3
   pub all-there : (h .number ≡ 1 → ⊥) → b ≡ false
@@ -25,10 +27,17 @@ pub record HeaderOk (b : Bool) (m : ℕ) (h : Heading) : Type 0 where
 module _ {b : Bool} {m : ℕ} where
   header-refused : (n : ℕ) → 1 ≤ n → n ≤ 3 → ((n ≡ 1 → ⊥) → b ≡ false) → HeaderOk b m (refused n)
   header-refused n l h there =
-      record { whole = λ z. absurd (omega arith); known-type = λ z. absurd (omega arith); most = h; all-there = there }
+      record {
+        whole = λ z. absurd (omega arith);
+        counted = λ z. absurd (omega arith);
+        known-type = λ z. absurd (omega arith);
+        most = h;
+        all-there = there;
+      }
 
-header-read : (m : ℕ) (h : Heading) → h .number ≡ 0 → size (h .kind) ≤ m → known (h .kind) ≡ true → HeaderOk false m h
-header-read m h z l k = record { whole = λ y. l; known-type = λ y. k; most = omega arith; all-there = λ y. refl }
+header-read : (m : ℕ) (h : Heading) → h .number ≡ 0 → size (h .kind) ≤ m → size (h .kind) + h .stored ≡ 12 + h .wire
+    → known (h .kind) ≡ true → HeaderOk false m h
+header-read m h z l w k = record { whole = λ y. l; counted = λ y. w; known-type = λ y. k; most = omega arith; all-there = λ y. refl }
 
 pub header-ok : Meets HeaderOk false 0 header
 unfolding header
@@ -47,10 +56,16 @@ header-ok = (
               (λ i. meets-cond HeaderOk (ltb w 4) false 12 _ _
               (λ l. header-refused 3 (omega arith) (omega arith) (λ z. refl))
               (λ l. (
-                (omega arith, λ us. header-read 16 _ refl (let y = size-timed k i in omega arith) e),
+                (
+                  omega arith,
+                  λ us.
+                      let y = size-timed k i in
+                      let g = ltb-false w 4 l in
+                      header-read 16 _ refl (omega arith) (omega arith) e,
+                ),
                 λ n d. header-refused 1 (omega arith) (omega arith) (λ z. absurd (z refl)),
               )))
-              (λ i. header-read 12 _ refl (let y = size-plain k i in omega arith) e))
+              (λ i. let y = size-plain k i in header-read 12 _ refl (omega arith) (omega arith) e))
               (λ e. header-refused 2 (omega arith) (omega arith) (λ z. refl)),
         ),
       ),
@@ -59,12 +74,14 @@ header-ok = (
   λ n d. header-refused 1 (omega arith) (omega arith) (λ z. absurd (z refl)),
 )
 
--- a record that is framed at an offset lies there whole and its type is known; only refusals 1 and 4 are for want of octets
+-- a record that is framed at an offset lies there whole, its type is known, and its end is where the wire length says, with
+-- microseconds or without; only refusals 1 and 4 are for want of octets
 pub record FrameOk (at : ℕ) (b : Bool) (m : ℕ) (f : Framing) : Type 0 where
   pub known-type : f .head .number ≡ 0 → known (f .head .kind) ≡ true
   pub most : f .head .number ≤ 4
   pub body : f .head .number ≡ 0 → f .body ≡ at + size (f .head .kind)
   pub end : f .head .number ≡ 0 → f .end ≡ at + (size (f .head .kind) + f .head .stored)
+  pub own-end : f .head .number ≡ 0 → f .end ≡ at + (12 + f .head .wire)
   pub room : f .head .number ≡ 0 → size (f .head .kind) + f .head .stored ≤ m
   pub all-there : (f .head .number ≡ 1 → ⊥) → (f .head .number ≡ 4 → ⊥) → b ≡ false
 
@@ -75,6 +92,7 @@ frame-none at b m n l h there =
       most = h;
       body = λ z. absurd (omega arith);
       end = λ z. absurd (omega arith);
+      own-end = λ z. absurd (omega arith);
       room = λ z. absurd (omega arith);
       all-there = there;
     }
@@ -90,6 +108,7 @@ framed-ok at b m h o =
         most = omega arith;
         body = λ y. refl;
         end = λ y. refl;
+        own-end = λ y. ap (λ (n : ℕ). at + n) (o .counted y);
         room = λ y. omega arith;
         all-there = λ x y. o .all-there x;
       },
@@ -189,6 +208,7 @@ module _ (s : List ℕ) (at : ℕ) where
     pub record Placed : Type 0 where
       pub body : f .body ≡ at + size (f .head .kind)
       pub end : f .end ≡ at + (size (f .head .kind) + f .head .stored)
+      pub own-end : f .end ≡ at + (12 + f .head .wire)
       pub room : f .end ≤ length s
 
     pub framed-placed : Placed
@@ -200,4 +220,4 @@ module _ (s : List ℕ) (at : ℕ) where
         let l = framed-within in
         let r = h .room z in
         let i = h .end z in
-        record { body = h .body z; end = i; room = omega arith }
+        record { body = h .body z; end = i; own-end = h .own-end z; room = omega arith }

@@ -1,10 +1,10 @@
--- Which types are known, range by range, and the size of a header.
+-- Which types are known, range by range, which have no microseconds, and the size of a header.
 use Prim.Native.Nat.{ℕ, _%_, _<_, _≤_}
 use mathlib.Core.Path.{_≡_, refl, sym, ap}
 use mathlib.Core.Bool.{Bool, true, false, _&&_, cond}
 use native.Mathlib.Omega.{arith}
 use lib.Dec.{leb, ltb}
-use borrow.Author.Tests.{le-leb, lt-leb, leb-true, leb-false, ltb-true, ltb-false}
+use borrow.Author.Tests.{le-leb, lt-leb, leb-true, leb-false, ltb-true, ltb-false, ne-eqb}
 use Rattle.header.specs.Kind.{known, timed, size}
 
 module _ (k lo hi : ℕ) where
@@ -71,6 +71,10 @@ module _ (k : ℕ) where
       by-test : (t : Bool) → ltb (k % 16) 2 ≡ t → t ≡ known k
       by-test true e = first (ltb-true _ _ e) (leb k 17) (leb k 33) refl refl
       by-test false e = later (ltb-false _ _ e) (leb k 15) (leb k 31) refl refl
+
+  pub timed-rest : (k ≡ 17 → ⊥) → (k ≡ 33 → ⊥) → (k ≡ 49 → ⊥) → false ≡ timed k
+  unfolding timed
+  timed-rest a b c = simp (ne-eqb _ _ a, ne-eqb _ _ b, ne-eqb _ _ c)
 
   -- the size, by whether the type has microseconds
   pub size-by : (t : Bool) → t ≡ timed k → size k ≡ cond t 16 12

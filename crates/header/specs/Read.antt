@@ -1,6 +1,6 @@
 -- The common header (RFC 6396, 2 and 3): Timestamp 4, Type 2, Subtype 2, Length 4; in a type with microseconds,
 -- Microsecond Timestamp 4 more, which Length counts. Refusals in the order of 01 (Refusal numbers): 1, 2, 3, 1.
--- 01, Header and lengths: types 33 and 49 are read with no microseconds, and microseconds of 1,000,000 and more are accepted.
+-- 01, Header and lengths: microseconds of 1,000,000 and more are accepted.
 use Prim.Native.Nat.{ℕ, _-_}
 use mathlib.Core.List.{List}
 use mathlib.Core.Bool.{cond}

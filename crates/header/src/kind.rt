@@ -15,10 +15,16 @@ pub fn is_known(kind: u16) -> bool
     kind % 16 < 2
 }
 
+// Whether the header has microseconds: BGP4MP_ET, ISIS_ET and OSPFv3_ET do.
 pub(crate) fn is_timed(kind: u16) -> bool
     ensures { λ r. ⌜ r ≡ timed kind ⌝ }
 {
-    kind == 17
+    match kind {
+        17 => true,
+        33 => true,
+        49 => true,
+        _ => false,
+    }
 }
 
 // How many octets the header takes.

@@ -2,7 +2,7 @@
 //! same build writes the same lists.
 
 use mrt_oracle::asked;
-use mrt_oracle::campaigns::{bounds, headers, peers, records, ribs, streams, table_dumps, tokens};
+use mrt_oracle::campaigns::{bounds, headers, peers, records, ribs, streams, table_dumps, tokens, Put};
 use mrt_oracle::question::Question;
 use mrt_oracle::random::Random;
 use mrt_oracle::sample::Sample;
@@ -13,19 +13,25 @@ use std::{env, fs, io};
 const SEED: u64 = 1;
 const STREAMS: u64 = 5_000;
 
-/// Every question around the bounds, and a choice of the campaigns' others.
+const CAMPAIGNS: [fn(Put, &mut Random); 7] = [
+    headers::run,
+    peers::run,
+    ribs::run,
+    |put, _| records::run(put),
+    |put, _| tokens::short(put),
+    |put, random| streams::run(put, random, STREAMS),
+    table_dumps::run,
+];
+
+/// Every question around the bounds, and a choice of the campaigns' others. Each campaign has random numbers of its own:
+/// a question more in one does not have those of the others drawn anew.
 fn sampled() -> Sample {
-    let mut sample = Sample::new(SEED);
+    let mut sample = Sample::default();
     bounds::run(&mut |question: &Question| sample.keep(question));
-    let mut random = Random::new(SEED);
-    let mut offer = |question: &Question| sample.offer(question);
-    headers::run(&mut offer, &mut random);
-    peers::run(&mut offer, &mut random);
-    ribs::run(&mut offer, &mut random);
-    records::run(&mut offer);
-    tokens::short(&mut offer);
-    streams::run(&mut offer, &mut random, STREAMS);
-    table_dumps::run(&mut offer, &mut random);
+    for campaign in CAMPAIGNS {
+        let (mut random, mut choice) = (Random::new(SEED), Random::new(SEED));
+        campaign(&mut |question: &Question| sample.offer(question, &mut choice), &mut random);
+    }
     sample
 }
 

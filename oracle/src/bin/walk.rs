@@ -1,7 +1,9 @@
 //! Walks a file as the reading of 01 does and prints the lines of its listing: `walk FILE [WINDOW] [CONFIRMATIONS]`.
-//! Says at the end whether the crate answers the same.
+//! Says at the end whether the crate answers the same, and where it does not, for which known difference.
 
+use mrt_oracle::known;
 use mrt_oracle::oracle::Oracle;
+use mrt_oracle::question::Question;
 use mrt_oracle::subject::{Reading, Subject};
 use std::process::ExitCode;
 use std::{env, fs};
@@ -27,12 +29,21 @@ fn main() -> ExitCode {
             return ExitCode::FAILURE;
         }
     };
-    let events = Reading.walk(&stream, window, asked);
     println!("H\t{}\t{window}\t{asked}", stream.len());
-    for event in events.iter().flatten() {
+    for event in Reading.walk(&stream, window, asked).iter().flatten() {
         println!("{}", event.line());
     }
-    let same = events == Oracle.walk(&stream, window, asked);
-    eprintln!("the crate answers {}", if same { "the same" } else { "otherwise" });
+    eprintln!("the crate answers {}", answer_of_crate(&Question::Walk { stream: &stream, window, asked }));
     ExitCode::SUCCESS
+}
+
+fn answer_of_crate(question: &Question) -> String {
+    match (question.put_to(&Oracle), question.put_to(&Reading)) {
+        (of_crate, of_reading) if of_crate == of_reading => "the same".to_string(),
+        (Some(of_crate), Some(of_reading)) => match known::difference(question, &of_crate, &of_reading) {
+            Some(name) => format!("otherwise, by the known {name}"),
+            None => "otherwise".to_string(),
+        },
+        _ => "nothing".to_string(),
+    }
 }

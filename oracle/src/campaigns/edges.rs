@@ -70,7 +70,7 @@ fn long_candidates(put: Put) {
 /// A body of this size in each kind of place: first, last, confirming, cut by one octet.
 fn long_bodies(put: Put, size: usize) {
     let state = make::record(16, 0, &make::state_change_body(0, 1)).repeat(3);
-    for (kind, subtype) in [(32, 0), (13, 2), (13, 6), (16, 1), (5, 1), (14, 0), (17, 1)] {
+    for (kind, subtype) in [(32, 0), (33, 0), (13, 2), (13, 6), (16, 1), (5, 1), (14, 0), (17, 1)] {
         let long = make::record(kind, subtype, &vec![0; size]);
         for stream in [
             long.clone(),

@@ -61,7 +61,7 @@ fn random_header(put: Put, random: &mut Random) {
 
 fn random_fields(put: Put, random: &mut Random) {
     let kind = random.pick(&[0, 5, 12, 13, 16, 17, 17, 32, 33, 48, 49]);
-    let micros = if kind == 17 { random.number() as u32 } else { 0 };
+    let micros = if make::TIMED.contains(&kind) { random.number() as u32 } else { 0 };
     let (timestamp, stored) = (random.number() as u32, random.number() as u32);
     write(put, &[0xaa; 20], Header { timestamp, kind, subtype: random.number() as u16, wire: 0, stored, micros });
 }

@@ -98,8 +98,14 @@ fn markers(put: Put) {
 }
 
 fn microseconds(put: Put) {
+    for kind in make::TIMED {
+        microseconds_of(put, kind);
+    }
+}
+
+fn microseconds_of(put: Put, kind: u16) {
     for micros in [0, 999_998, 999_999, 1_000_000, 1_000_001, u32::MAX] {
-        let one = make::timed_record(17, 0, micros, &make::state_change_body(0, 1));
+        let one = make::timed_record(kind, 0, micros, &make::state_change_body(0, 1));
         all_about(put, &one);
         let torn = [vec![0; 5], one.repeat(3)].concat();
         for asked in ASKED {

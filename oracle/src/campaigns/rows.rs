@@ -1,6 +1,6 @@
 //! The smallest input for each known difference, answered by the crate and by the reading.
 
-use crate::answers::{Event, Header, NewEntry, Peer};
+use crate::answers::{Answer, Event, Header, NewEntry, Peer};
 use crate::make;
 use crate::oracle::{number_of_words, with_own_parsers, CrateWalk, Oracle};
 use crate::question::{Question, Reply};
@@ -25,6 +25,7 @@ pub fn all() -> Vec<Row> {
         walk_row("size_limit_is_named_first", &make::header(0, 0, 0, 16_777_217)),
     ];
     rows.extend(long_rows());
+    rows.extend([33, 49].into_iter().flat_map(timed_rows));
     rows.extend(own_parser_rows());
     rows.extend(table_rows());
     rows.extend(writer_rows());
@@ -42,6 +43,17 @@ fn long_rows() -> [Row; 2] {
     let shown = format!("{}, 16777217 times 00", hex(&head));
     let carried = shown_row("body_above_16_mib", shown, &[&head[..], &zeros].concat());
     [framed, carried]
+}
+
+/// A whole header with microseconds, a wire length that leaves no room for them, and a header cut before them.
+fn timed_rows(kind: u16) -> [Row; 3] {
+    let name = "microseconds_of_33_and_49_are_left_in_the_body";
+    let whole = [make::header(0, kind, 0, 4), vec![0, 0, 0, 1]].concat();
+    [
+        question_row(name, &format!("header {}", hex(&whole)), &Question::HeaderRead { stream: &whole, at: 0 }),
+        walk_row(name, &make::header(0, kind, 0, 0)),
+        walk_row(name, &make::header(0, kind, 0, 4)),
+    ]
 }
 
 /// Differences that show only while the crate's own parsers are in place of 01's body check.
@@ -173,6 +185,9 @@ fn question_row(name: &'static str, input: &str, question: &Question) -> Row {
 /// The part of a reply that the rows are about.
 fn short(reply: &Reply) -> String {
     match reply {
+        Reply::Header(Answer { refusal, value: Header { stored, micros, .. } }) => {
+            format!("refusal {refusal}, stored length {stored}, microseconds {micros}")
+        }
         Reply::Added(answer, _) => format!("refusal {}, id {}", answer.refusal, answer.value),
         Reply::Table(answer, _) => format!("refusal {}, view name of {} octets", answer.refusal, answer.value.view_len),
         Reply::Rib(answer) => format!("refusal {}, prefix {}", answer.refusal, hex(&answer.value.prefix[..2])),

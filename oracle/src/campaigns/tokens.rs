@@ -24,6 +24,7 @@ fn alphabet() -> Vec<Vec<u8>> {
         make::header(0, 16, 1, 0),
         make::header(0, 14, 0, 0),
         make::header(0, 17, 0, 3),
+        make::header(0, 33, 0, 0),
         make::header(0, 16, 0, 40),
     ]
 }

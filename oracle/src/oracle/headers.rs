@@ -3,6 +3,7 @@
 
 use super::words;
 use crate::answers::{Answer, Frame, Header};
+use crate::make;
 use bgpkit_part::models::{CommonHeader, EntryType};
 use bgpkit_part::parser::mrt::mrt_header::parse_common_header_with_bytes;
 use bgpkit_part::parser::mrt::mrt_record::chunk_mrt_record;
@@ -50,10 +51,11 @@ fn place(record: &RawMrtRecord, at: usize) -> Frame {
     Frame { header: values(&record.common_header, &record.header_bytes), body, end: body + record.message_bytes.len() }
 }
 
-/// Asked only where microseconds are present exactly for type 17, and where there is room.
+/// Asked only where microseconds are present exactly for the types that have them, and where there is room. The crate
+/// writes them wherever they are handed in.
 pub fn write(out: &mut [u8], header: &Header) -> Option<Answer<usize>> {
     let entry_type = EntryType::try_from(header.kind).ok()?;
-    let timed = entry_type == EntryType::BGP4MP_ET;
+    let timed = make::TIMED.contains(&header.kind);
     if !timed && header.micros != 0 {
         return None;
     }

@@ -1,4 +1,5 @@
-//! The common header, read and written, and the record that it frames (RFC 6396, 2 and 3; 01, Header and lengths).
+//! The common header, read and written, and the record that it frames (RFC 6396, 2 and 3; 01, Header and lengths; 02,
+//! wish 1).
 
 use super::octets::{be16, be32, Pen};
 use crate::answers::{Answer, Frame, Header};
@@ -12,7 +13,7 @@ pub fn is_known(kind: u16) -> bool {
 
 /// Whether four octets of microseconds follow the common header.
 fn is_timed(kind: u16) -> bool {
-    kind == 17
+    matches!(kind, 17 | 33 | 49)
 }
 
 fn header_size(kind: u16) -> usize {

@@ -1,4 +1,5 @@
-//! Document 01 read in plain Rust over slices. Nothing here is taken from the crate, and nothing allocates.
+//! Document 01, and what 02 changes in it, read in plain Rust over slices. Nothing here is taken from the crate, and
+//! nothing allocates.
 
 mod check;
 mod header;

@@ -3,6 +3,9 @@
 use crate::{Random, keepalive, message, record, state_change};
 use mrt::{Candidate, Evidence, Family, Frame, Header, NewHeader, Record, Refusal, StoredLength, check_body};
 
+/// The types whose header has microseconds.
+const TIMED: [u16; 3] = [17, 33, 49];
+
 /// Every call that reads at an offset gives this refusal.
 fn all_refuse(stream: &[u8], at: usize, refusal: Refusal) {
     assert_eq!(Header::read(stream, at), Err(refusal));
@@ -28,8 +31,14 @@ fn each_refusal_of_a_record_comes_in_its_order() {
     unknown[11] = 200;
     assert_eq!(Record::read(&[0; 11], 0), Err(Refusal::TruncatedHeader));
     assert_eq!(Record::read(&unknown, 0), Err(Refusal::UnknownType));
-    assert_eq!(Record::read(&record(17, 0, &[0; 3]), 0), Err(Refusal::ShortLength));
-    assert_eq!(Record::read(&record(17, 0, &[0; 4])[..15], 0), Err(Refusal::TruncatedHeader));
+    for kind in TIMED {
+        assert_eq!(Record::read(&record(kind, 0, &[0; 3]), 0), Err(Refusal::ShortLength));
+        assert_eq!(Record::read(&record(kind, 0, &[0; 4])[..15], 0), Err(Refusal::TruncatedHeader));
+        assert_eq!(Record::read(&record(kind, 0, &[0; 5])[..16], 0), Err(Refusal::TruncatedBody));
+    }
+    assert_eq!(Record::read(&record(48, 0, &[0; 4])[..15], 0), Err(Refusal::TruncatedBody));
+    assert_eq!(Record::read(&record(33, 0, &[0; 4]), 0), Err(Refusal::NotCarried));
+    assert_eq!(Record::read(&record(49, 0, &[0; 4]), 0), Err(Refusal::NotCarried));
     assert_eq!(Record::read(&record(13, 1, &[0; 8])[..19], 0), Err(Refusal::TruncatedBody));
     assert_eq!(Record::read(&record(11, 1, &[0; 8]), 0), Err(Refusal::NotCarried));
     assert_eq!(Record::read(&record(13, 6, &[0; 8]), 0), Err(Refusal::OtherSubtype));
@@ -49,10 +58,14 @@ fn a_frame_that_fills_the_stream_borrows_its_body() {
 
 #[test]
 fn microseconds_are_no_part_of_the_body() {
-    let stream = record(17, 9, &[0, 15, 66, 64]);
-    let frame = Frame::read(&stream, 0).unwrap();
-    let Header { wire, stored, micros, .. } = frame.header;
-    assert_eq!((wire.0, stored.0, micros, frame.body), (4, 0, 1_000_000, &[][..]));
+    for kind in (0..=13).chain([16, 17, 32, 33, 48, 49]) {
+        let stream = record(kind, 9, &[0, 15, 66, 64, 7]);
+        let frame = Frame::read(&stream, 0).unwrap();
+        let Header { wire, stored, micros, .. } = frame.header;
+        let (length, value) = if TIMED.contains(&kind) { (1, 1_000_000) } else { (5, 0) };
+        assert_eq!((wire.0, stored.0, micros, frame.end), (5, length, value, 17));
+        assert_eq!(frame.body, &stream[17 - length as usize..]);
+    }
 }
 
 fn new_header(kind: u16, stored: u32, micros: u32) -> NewHeader {
@@ -65,8 +78,12 @@ fn a_refused_header_leaves_the_output() {
     for (header, room, refusal) in [
         (new_header(14, 0, 1), 0, Refusal::UnknownType),
         (new_header(16, 0, 1), 0, Refusal::TooLarge),
+        (new_header(48, 0, 1), 0, Refusal::TooLarge),
         (new_header(17, 4_294_967_292, 0), 0, Refusal::TooLarge),
+        (new_header(33, 4_294_967_292, 0), 0, Refusal::TooLarge),
+        (new_header(49, 4_294_967_292, 0), 0, Refusal::TooLarge),
         (new_header(17, 4_294_967_291, 0), 15, Refusal::NoRoom),
+        (new_header(33, 4_294_967_291, 0), 15, Refusal::NoRoom),
         (new_header(16, 0, 0), 11, Refusal::NoRoom),
         (new_header(16, 0, 0), 0, Refusal::NoRoom),
     ] {
@@ -79,9 +96,10 @@ fn a_refused_header_leaves_the_output() {
 fn a_written_header_is_read_back_and_touches_nothing_else() {
     let mut random = Random(1);
     for kind in (0..=13).chain([16, 17, 32, 33, 48, 49]) {
-        let micros = if kind == 17 { random.next() as u32 } else { 0 };
+        let timed = TIMED.contains(&kind);
+        let micros = if timed { random.next() as u32 } else { 0 };
         let header = new_header(kind, random.next() as u32 >> 1, micros);
-        let size = if kind == 17 { 16 } else { 12 };
+        let size = if timed { 16 } else { 12 };
         let mut out = [0x5a; 20];
         assert_eq!(header.write(&mut out), Ok(size));
         assert_eq!(Header::read(&out[..size], 0).map(NewHeader::from), Ok(header));

@@ -98,6 +98,24 @@ fn an_open_of_28_octets_is_refused_and_no_scan_takes_it_up() {
     assert_eq!(gaps(&[&[255; 12][..], &short, &open].concat(), options(200, 1)), [(0, 72, 2, 2, 1)]);
 }
 
+/// Complete, with a length that leaves no room for microseconds, and cut before them.
+#[test]
+fn types_33_and_49_have_microseconds_in_a_walk() {
+    for kind in [33, 49] {
+        let next = state_change();
+        let complete = [record(kind, 0, &[0; 4]), next.clone()].concat();
+        assert_eq!(gaps(&complete, options(200, 1)), [(0, 16, 5, 4, 1)]);
+        for wire in 0..4 {
+            let short = [record(kind, 0, &vec![0; wire]), next.clone()].concat();
+            assert_eq!(gaps(&short, options(200, 1)), [(0, 12 + wire, 3, 3, 1)]);
+        }
+        for left in 12..16 {
+            let cut = [&next, &record(kind, 0, &[0; 4])[..left]].concat();
+            assert_eq!(gaps(&cut, options(200, 1)), [(32, 32 + left, 1, 5, 0)]);
+        }
+    }
+}
+
 #[test]
 fn table_dumps_confirm_an_own_end_and_no_scan() {
     let dumps = [record(12, 1, &[0; 22]), record(12, 2, &[0; 46])].concat();

@@ -8,7 +8,7 @@ use crate::question::Question;
 const ROOM: [u8; 17] = [0xaa; 17];
 
 pub fn run(put: Put) {
-    for kind in [0, 13, 14, 16, 17, 18, 33, 49, 65_535] {
+    for kind in [0, 13, 14, 16, 17, 18, 32, 33, 48, 49, 65_535] {
         for wire in [0, 3, 4, 5, u32::MAX] {
             short_streams(put, kind, wire);
         }
@@ -19,7 +19,7 @@ pub fn run(put: Put) {
         write(put, &ROOM, kind, 0, 0);
     }
     offsets(put);
-    for kind in [0, 14, 16, 17, 49] {
+    for kind in [0, 14, 16, 17, 32, 33, 48, 49] {
         writes(put, kind);
     }
 }

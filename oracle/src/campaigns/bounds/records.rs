@@ -15,6 +15,7 @@ pub fn run(put: Put) {
     message_lengths(put);
     markers(put);
     microseconds(put);
+    lengths_with_microseconds(put);
     table_dumps(put);
     offsets(put);
 }
@@ -30,7 +31,7 @@ fn at(put: Put, stream: &[u8], at: usize) {
 
 /// Type 16 and its like with a body that is cut: 4 before 5, 6 and 7; 5 before 6; 6 before 7.
 fn order(put: Put) {
-    for kind in [0, 5, 12, 13, 14, 16, 17, 48] {
+    for kind in [0, 5, 12, 13, 14, 16, 17, 33, 48, 49] {
         for subtype in [0, 1, 2, 3, 6, 7, 12, 99] {
             for body in [0, 7] {
                 let record = make::record(kind, subtype, &vec![0; body]);
@@ -124,6 +125,18 @@ fn microseconds(put: Put) {
     for micros in [0, 999_999, 1_000_000, u32::MAX] {
         all_about(put, &make::timed_record(17, 1, micros, &make::message_body(1, 1, 4, 19)));
         all_about(put, &make::timed_record(17, 0, micros, &make::state_change_body(0, 2)));
+    }
+}
+
+/// A wire length under 4, then under 16 octets, then a cut body, then the type or the body; 48 has no microseconds.
+fn lengths_with_microseconds(put: Put) {
+    for kind in [17, 33, 48, 49] {
+        for wire in 0..=5 {
+            let stream = [make::header(7, kind, 0, wire), vec![0; 5]].concat();
+            for length in 11..=stream.len() {
+                put(&Question::Judge { stream: &stream[..length], at: 0 });
+            }
+        }
     }
 }
 

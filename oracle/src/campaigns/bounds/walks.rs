@@ -35,6 +35,8 @@ fn streams() -> Vec<Vec<u8>> {
     let cut = make::record(12, 1, &make::table_dump(1, 24, &[])[..21]);
     let open = make::record(16, 1, &make::message_body(1, 1, 1, 29));
     let short = make::record(16, 1, &make::message_body(1, 1, 1, 28));
+    let timed = make::record(33, 0, &[0; 3]);
+    let no_micros = [make::header(0, 33, 0, 3), vec![0; 3]].concat();
     vec![
         Vec::new(),
         [&state[..], &broken, &state].concat(),
@@ -52,6 +54,12 @@ fn streams() -> Vec<Vec<u8>> {
         [&cut[..], &torn, &wide, &state, &state].concat(),
         [&open[..], &short, &open].concat(),
         [&torn[..], &short, &open, &state].concat(),
+        [&timed[..], &state, &make::record(49, 1, &[]), &state].concat(),
+        [&torn[..], &timed, &state, &state].concat(),
+        [&no_micros[..], &state, &state].concat(),
+        [&state[..], &make::header(0, 49, 0, 0), &state].concat(),
+        [&state[..], &make::header(0, 33, 0, 4), &[0; 3]].concat(),
+        [&state[..], &make::header(0, 49, 0, u32::MAX)].concat(),
     ]
 }
 
