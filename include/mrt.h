@@ -83,7 +83,7 @@ typedef struct mrt_peer {
 /*
  * The header at the offset `at` of the stream `s`. Types 17, 33 and 49 have four octets of microseconds, which their wire length
  * counts and their stored length does not: 3 is a wire length under 4, and the second 1 a header that is cut before them.
- * Values: timestamp, type, subtype, wire length, stored length, microseconds, 0 for any other type. Refusals: 8, 1, 2, 3, 1, 9.
+ * Values: timestamp, type, subtype, wire length, stored length, microseconds (0 for any other type). Refusals: 8, 1, 2, 3, 1, 9.
  */
 uint32_t mrt_read_header(const uint8_t *s, size_t s_len, size_t at, uint64_t *out, size_t out_len);
 

@@ -15,8 +15,8 @@ use Rattle.header.specs.Read.{Heading, refused, accepted, header, header
 use Rattle.header.specs.Frame.{Framing, unframed, framed, frame, frameOf, frameAt}
 use Rattle.header.proofs.KnownTypes.{size-timed, size-plain}
 
--- a header that is read is there whole, its type is known, and the wire length counts from the twelfth octet on; only refusal 1
--- is for want of octets
+-- a header that is read is there whole, its type is known, and its wire length counts all octets after the first twelve; only
+-- refusal 1 is for want of octets
 pub record HeaderOk (b : Bool) (m : ℕ) (h : Heading) : Type 0 where
   pub whole : h .number ≡ 0 → size (h .kind) ≤ m
   pub counted : h .number ≡ 0 → size (h .kind) + h .stored ≡ 12 + h .wire
