@@ -25,7 +25,7 @@ const KNOWN: [(&str, Explains); 11] = [
     ("path_number_is_dropped_silently", path_number_is_dropped_silently),
 ];
 
-/// The one difference that changes how a stream is read on: it may come together with any of the others.
+/// No row of the table: it may come together with any difference there (`difference`).
 const LEFT_IN_THE_BODY: &str = "microseconds_of_33_and_49_are_left_in_the_body";
 
 /// The names of all known differences.

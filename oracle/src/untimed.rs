@@ -43,13 +43,13 @@ fn number_anew(event: &mut Event, stream: &[u8]) {
 }
 
 /// Whether a header of type 33 or 49 may stand at an offset.
-fn is_timed(stream: &[u8], at: usize) -> bool {
+fn is_33_or_49(stream: &[u8], at: usize) -> bool {
     let kind = stream.get(at..).and_then(|rest| rest.get(4..6));
     matches!(kind, Some([0, 33 | 49]))
 }
 
 fn plain_at(stream: &[u8], at: usize) -> Option<Vec<u8>> {
-    is_timed(stream, at).then(|| {
+    is_33_or_49(stream, at).then(|| {
         let mut plain = stream.to_vec();
         plain[at + 5] -= 1;
         plain
@@ -61,7 +61,7 @@ fn plain_walk(stream: &[u8], window: usize, asked: u8) -> Option<Vec<u8>> {
     let mut plain = stream.to_vec();
     let mut walk = Walk::default();
     loop {
-        if is_timed(&plain, walk.position) {
+        if is_33_or_49(&plain, walk.position) {
             plain[walk.position + 5] -= 1;
         }
         if reading::step(&plain, &mut walk, window, asked).is_last() {

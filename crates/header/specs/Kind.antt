@@ -7,7 +7,7 @@ use lib.Dec.{leb, eqb}
 unfoldable pub known : ℕ → Bool
 known k = leb k 13 || leb 16 k && leb k 17 || leb 32 k && leb k 33 || leb 48 k && leb k 49
 
--- the types whose header has microseconds (RFC 6396, 3; 02, wish 1): BGP4MP_ET, ISIS_ET and OSPFv3_ET
+-- the types whose header has microseconds (RFC 6396, 3 and 4; 02, wish 1): BGP4MP_ET, ISIS_ET and OSPFv3_ET
 unfoldable pub timed : ℕ → Bool
 timed k = eqb k 17 || eqb k 33 || eqb k 49
 
