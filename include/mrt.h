@@ -25,6 +25,12 @@
 #include <stddef.h>
 #include <stdint.h>
 
+/*
+ * The number of this interface. It goes up whenever a call's values or their meaning change, and the Rust crate's minor version
+ * is the same. 2 after 1: mrt_candidate leaves three values and no family, and evidence 1 is no longer given.
+ */
+#define MRT_INTERFACE 2
+
 #ifdef __cplusplus
 extern "C" {
 #endif
@@ -43,7 +49,7 @@ extern "C" {
 #define MRT_STEP_VALUES 8
 #define MRT_BUILDER_VALUES 3
 #define MRT_TABLE_DUMP_VALUES 8
-#define MRT_CANDIDATE_VALUES 4
+#define MRT_CANDIDATE_VALUES 3
 
 /* The kinds of a walk's answer. */
 #define MRT_RECORD 1
@@ -109,10 +115,10 @@ mrt_written mrt_write_header(uint8_t *out, size_t out_len, uint32_t timestamp, u
 /*
  * The next answer of a walk over the stream `s`. `walk` has two places: the position, and 1 where the walk is finished or 0
  * where it is not; a fresh walk has 0 and 0. A scan looks at no more than `window` distances and leaves where `asked` records
- * stand in a row (0 counts as 1).
+ * of those that mrt_candidate accepts stand in a row (0 counts as 1).
  * Values: 1 (a record), its start, then those of the frame;
- *         2 (a gap), its start, its end, the refusal's number, the evidence (1 legacy, 2 marker, 3 state change, 4 the record's
- *           own end, 5 the stream's end), how many records confirm it;
+ *         2 (a gap), its start, its end, the refusal's number, the evidence (2 marker, 3 state change, 4 the record's own end,
+ *           5 the stream's end; 1 is reserved and never given), how many records confirm it;
  *         3 (the end), the walk's position;
  *         4 (an exhausted window), where the scan started, the window, the number of the record there.
  * Refusals: 8 where `walk` has fewer than two places, a second place above 1 or a position beyond the stream, then 9 where
@@ -273,9 +279,10 @@ mrt_written mrt_write_table_dump(uint8_t *out, size_t out_len, uint16_t subtype,
 int64_t mrt_age(uint32_t timestamp, uint32_t originated);
 
 /*
- * Whether a scan may take up the record at an offset.
- * Values: 1, the family (5, or 16 for types 16 and 17), the evidence (1 legacy, 2 marker, 3 state change), where the record
- * ends; or four times 0 where it may not. Refusals: 8 (an offset beyond the stream), 9.
+ * Whether a scan may take up the record at an offset: one of type 16 or 17 that passes all checks, with microseconds below
+ * 1,000,000. Records of other types are passed over.
+ * Values: 1, the evidence (2 marker, 3 state change), where the record ends; or three times 0 where it may not.
+ * Refusals: 8 (an offset beyond the stream), 9.
  */
 uint32_t mrt_candidate(const uint8_t *s, size_t s_len, size_t at, uint64_t *out, size_t out_len);
 

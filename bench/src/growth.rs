@@ -72,7 +72,7 @@ fn scan_in_window() {
     row.print();
 }
 
-/// Each eighth offset begins a row of records that lacks one, or more.
+/// Each tenth offset begins a row of records that lacks one, or more.
 fn scan_in_asked() {
     let mut row = Row::new("scan, 1 MiB of rows of less than k records", "k");
     for asked in [4, 16, 64] {

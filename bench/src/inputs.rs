@@ -88,27 +88,50 @@ fn lose(stream: &mut [u8]) {
     stream[..front].fill(255);
 }
 
-/// In equal parts: a type in every second octet, a plausible header in every eighth, and a record of type 5 in every
-/// eighth whose next one is none.
+/// Repeated, a state change at every tenth offset: type 16, subtype 5, the length, and the address family of the one
+/// that began ten octets before. The eight octets of type, subtype and length overlap with no others, and each needs a
+/// family of its own, so no pattern of state changes is denser.
+const fn state_change(length: u8, family: u8) -> [u8; 10] {
+    [0, 16, 0, 5, 0, 0, 0, length, 0, family]
+}
+
+/// In equal parts: a type in every second octet, a plausible header in every eighth, and in every tenth a state change
+/// whose next one is none, since it has 36 octets.
 pub fn false_starts(octets: usize) -> Vec<u8> {
-    let third = octets / 24;
-    let mut stream = [0, 16, 0, 16, 0, 16, 0, 16].repeat(third);
-    stream.extend(PLAUSIBLE.repeat(third));
-    stream.extend([0, 5, 0, 1, 0, 0, 0, 16].repeat(third));
+    let third = octets / 3;
+    let changes = third / 10;
+    let mut stream = [0, 16].repeat(third / 2);
+    stream.extend(PLAUSIBLE.repeat(third / PLAUSIBLE.len()));
+    stream.extend(state_change(24, 1).repeat(changes));
     lose(&mut stream);
+    // The last three run past the stream.
+    misleads(&stream, changes - 3, 2);
     stream
 }
 
-/// Every eighth offset begins a record of type 5 with 32 octets, and no row of them has the asked number.
+/// Every tenth offset begins a state change of 60 octets, so that the next one stands at its end, and no row of them
+/// has the asked number.
 pub fn broken_rows(octets: usize, asked: usize) -> Vec<u8> {
-    let mut part = [0, 5, 0, 1, 0, 0, 0, 20].repeat(4 * (asked - 1));
-    part.extend([255; 32]);
-    let mut stream = part.repeat(octets / part.len());
+    let mut part = state_change(48, 2).repeat(6 * (asked - 1));
+    // The family of the last one, and no type.
+    part.extend([255, 255, 255, 255, 255, 255, 255, 255, 0, 2].repeat(6));
+    let parts = octets / part.len();
+    let mut stream = part.repeat(parts);
     lose(&mut stream);
+    // The loss takes the first two.
+    misleads(&stream, parts * 6 * (asked - 1) - 2, asked);
     stream
 }
 
-/// Records of type 32, which are not carried, each with the asked number of good records after it.
+/// Holds a stream to its claim: so many offsets begin a candidate, and nowhere does the asked number stand in a row.
+fn misleads(stream: &[u8], candidates: usize, asked: usize) {
+    let standing = (0..stream.len()).filter(|&at| reading::candidate(stream, at).value.stands).count();
+    assert_eq!(standing, candidates, "the input has other candidates than it is to have");
+    assert!(!reading::scan(stream, 0, stream.len(), asked as u8).found, "a row of {asked} stands in the input");
+}
+
+/// Records of type 32, which are not carried, each with the asked number of good records after it. Those are of type 5,
+/// the cheapest to judge, so that the try itself is timed.
 pub fn refused_rows(octets: usize, asked: usize) -> Vec<u8> {
     let mut part = make::record(32, 0, &[]);
     part.extend(make::record(5, 7, &[0; 12]).repeat(asked));

@@ -166,11 +166,10 @@ pub struct NewDump<'a> {
     pub attributes: &'a [u8],
 }
 
-/// A candidate of the scan. `family` is 5 or 16; all is 0 where no candidate stands.
+/// A candidate of the scan. All is 0 where none stands.
 #[derive(Debug, Clone, Copy, PartialEq, Eq, Default)]
 pub struct Candidate {
     pub stands: bool,
-    pub family: u16,
     pub evidence: u8,
     pub end: usize,
 }

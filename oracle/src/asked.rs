@@ -285,7 +285,7 @@ fn frame(answer: &Answer<Frame>) -> Vec<u8> {
 
 fn candidate(answer: &Candidate) -> Vec<u8> {
     match *answer {
-        Candidate { stands: true, family, evidence, end } => octets(&[family.into(), evidence.into(), end]),
+        Candidate { stands: true, evidence, end } => octets(&[evidence.into(), end]),
         _ => Vec::new(),
     }
 }

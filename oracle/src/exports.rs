@@ -224,7 +224,7 @@ pub fn judge(s: &[u8], at: usize) -> (u32, [u64; 9]) {
 }
 
 #[inline]
-pub fn candidate(s: &[u8], at: usize) -> (u32, [u64; 4]) {
+pub fn candidate(s: &[u8], at: usize) -> (u32, [u64; 3]) {
     values(|out, places| unsafe { raw::mrt_candidate(s.as_ptr(), s.len(), at, out, places) })
 }
 

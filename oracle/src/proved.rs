@@ -347,12 +347,7 @@ impl Subject for Proved {
 
     fn candidate(&self, stream: &[u8], offset: usize) -> Option<Answer<Candidate>> {
         let (refusal, values) = exports::candidate(stream, offset);
-        let value = Candidate {
-            stands: values[0] == 1,
-            family: values[1] as u16,
-            evidence: values[2] as u8,
-            end: values[3] as usize,
-        };
+        let value = Candidate { stands: values[0] == 1, evidence: values[1] as u8, end: values[2] as usize };
         Some(Answer { refusal: refusal as u8, value })
     }
 

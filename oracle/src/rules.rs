@@ -100,13 +100,16 @@ fn broken_by_step(n: usize, before: Walk, event: Event, after: Walk) -> Option<&
     (after != expected || !right).then_some("the walk after the call is not as 01 says")
 }
 
-/// The four properties of a whole walk.
+/// The five properties of a whole walk.
 pub fn broken_by_walk(events: &[Event], n: usize) -> Option<&'static str> {
     if !covers(events, n) {
         return Some("records and gaps do not cover the octets once and in order");
     }
     if !confirmed_records_follow(events) {
         return Some("a gap is not followed by as many records as it reports");
+    }
+    if !scans_take_up_on_16_and_17(events) {
+        return Some("a gap has evidence 1, or a scan took up on another type than 16 and 17");
     }
     if events.windows(2).any(|pair| pair.iter().all(|event| matches!(event, Event::Gap { .. }))) {
         return Some("two gaps touch");
@@ -142,5 +145,18 @@ fn confirmed_records_follow(events: &[Event]) -> bool {
         }
         let following = after.get(..usize::from(confirmed));
         following.is_some_and(|events| events.iter().all(|event| matches!(event, Event::Record { .. })))
+    })
+}
+
+/// Evidence 4 is a record's own end, 5 the stream's. A scan has 2 or 3, and types 16 and 17 confirm it; 1 is reserved.
+fn scans_take_up_on_16_and_17(events: &[Event]) -> bool {
+    events.iter().enumerate().all(|(place, event)| match *event {
+        Event::Gap { evidence: 4 | 5, .. } => true,
+        Event::Gap { evidence: 2 | 3, confirmed, .. } => {
+            let mut confirming = events[place + 1..].iter().take(confirmed.into());
+            confirming.all(|event| matches!(event, Event::Record { kind: 16 | 17, .. }))
+        }
+        Event::Gap { .. } => false,
+        _ => true,
     })
 }

@@ -77,7 +77,7 @@ fn way(question: &Question, reply: &Reply) -> String {
         Reply::Header(answer) => format!("{} {}", answer.refusal, answer.value.kind),
         Reply::Frame(answer) => format!("{} {}", answer.refusal, answer.value.header.kind),
         Reply::Checked(refusal) => format!("{refusal}"),
-        Reply::Candidate(answer) => format!("{} {}", answer.value.family, answer.value.evidence),
+        Reply::Candidate(answer) => format!("{}", answer.value.evidence),
         Reply::RibStep(answer) => format!("{} {}", answer.refusal, answer.value.handed),
         Reply::Pushed(answer, _) => format!("{} {}", answer.refusal, answer.value.count),
         Reply::Step(event, _) => shape(event),

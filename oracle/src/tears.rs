@@ -22,7 +22,7 @@ pub struct Written<'a> {
 impl<'a> Written<'a> {
     pub fn of(subject: &dyn Subject, file: &'a [u8]) -> Self {
         let mut written = Written { records: HashSet::new(), undated: HashSet::new(), peers: HashSet::new() };
-        for event in walk(subject, file) {
+        for event in walk(subject, file, ASKED) {
             if let Event::Record { start, end, .. } = event {
                 written.records.insert(&file[start..end]);
                 written.undated.insert(&file[start + TIMESTAMP..end]);
@@ -33,8 +33,8 @@ impl<'a> Written<'a> {
     }
 }
 
-fn walk(subject: &dyn Subject, stream: &[u8]) -> Vec<Event> {
-    subject.walk(stream, WINDOW, ASKED).unwrap_or_default()
+fn walk(subject: &dyn Subject, stream: &[u8], asked: u8) -> Vec<Event> {
+    subject.walk(stream, WINDOW, asked).unwrap_or_default()
 }
 
 /// The peer index of each route in the record at an offset; none where it is no RIB.
@@ -75,8 +75,8 @@ pub struct Tally {
 }
 
 impl Tally {
-    pub fn add(&mut self, subject: &dyn Subject, written: &Written, stream: &[u8]) {
-        let events = walk(subject, stream);
+    pub fn add(&mut self, subject: &dyn Subject, written: &Written, stream: &[u8], asked: u8) {
+        let events = walk(subject, stream, asked);
         let before = self.records;
         self.octets += stream.len();
         self.lost += stream.len();

@@ -17,7 +17,7 @@ fn the_crate_and_the_reading_agree() {
 }
 
 /// What each row of the known differences says, the crate before the reading.
-const ROWS: [(&str, &str, &str); 24] = [
+const ROWS: [(&str, &str, &str); 25] = [
     (
         "cut_body_is_named_before_the_unknown_type",
         "G 0 12 4 5 0 (Error: truncated MRT body: expected 129 bytes, read 0) | E 12",
@@ -92,6 +92,12 @@ const ROWS: [(&str, &str, &str); 24] = [
         "G 0 1 4 2 3 (Error: truncated MRT body: expected 16777216 bytes, read 130) | R 1 48 16 1 | R 48 95 16 1 \
          | R 95 142 16 1 | E 142",
         "G 0 142 4 5 0 | E 142",
+    ),
+    (
+        "own_scan_takes_up_on_type_5",
+        "G 0 1 4 1 3 (Error: truncated MRT body: expected 16777216 bytes, read 73) | R 1 29 5 1 | R 29 57 5 1 \
+         | R 57 85 5 1 | E 85",
+        "G 0 85 4 5 0 | E 85",
     ),
     ("next_id_counts_distinct_addresses", "refusal 0, id 2", "refusal 0, id 3"),
     ("view_name_that_is_no_text_is_emptied", "refusal 0, view name of 0 octets", "refusal 0, view name of 1 octets"),

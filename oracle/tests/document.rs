@@ -3,6 +3,7 @@
 use mrt_oracle::answers::{Event, Peer};
 use mrt_oracle::make;
 use mrt_oracle::oracle::Oracle;
+use mrt_oracle::rules;
 use mrt_oracle::subject::{Reading, Subject};
 
 const BOTH: [&dyn Subject; 2] = [&Reading, &Oracle];
@@ -129,6 +130,39 @@ fn table_dumps_are_walked_and_confirm_but_no_scan_stops_there() {
         assert_eq!(lines(&torn), ["G\t0\t98\t2\t5\t0", "E\t98"]);
         assert!(!subject.candidate(&dump, 0).expect("every subject tests candidates").value.stands);
     }
+}
+
+/// Document 02, wish 14.
+#[test]
+fn type_5_is_walked_and_confirms_but_no_scan_stops_there() {
+    let legacy = make::record(5, 3, &[0; 10]).repeat(3);
+    let state = make::record(16, 0, &make::state_change_body(0, 1));
+    let torn = [255; 5];
+    for subject in BOTH {
+        let first = |parts: &[&[u8]], asked| walk(subject, &parts.concat(), 1 << 20, asked)[0];
+        for asked in 1..=3 {
+            let gap = |end, refusal, evidence, confirmed| Event::Gap { start: 0, end, refusal, evidence, confirmed };
+            assert_eq!(walk(subject, &legacy, 1 << 20, asked).len(), 4);
+            assert_eq!(first(&[&legacy], asked), Event::Record { start: 0, end: 22, kind: 5, subtype: 3 });
+            assert_eq!(first(&[&make::header(0, 32, 0, 0), &legacy], asked), gap(12, 5, 4, asked));
+            assert_eq!(first(&[&torn, &legacy], asked), gap(71, 2, 5, 0));
+            assert_eq!(first(&[&torn, &legacy, &state.repeat(3)], asked), gap(71, 2, 3, asked));
+            let (end, evidence, confirmed) = if asked == 1 { (5, 3, 1) } else { (135, 5, 0) };
+            assert_eq!(first(&[&torn, &state, &legacy, &state], asked), gap(end, 2, evidence, confirmed));
+        }
+        assert!(!subject.candidate(&legacy, 0).expect("every subject tests candidates").value.stands);
+    }
+}
+
+#[test]
+fn a_walk_with_evidence_1_breaks_a_rule() {
+    let broken = |evidence, kind| {
+        let gap = Event::Gap { start: 0, end: 5, refusal: 2, evidence, confirmed: 1 };
+        let record = Event::Record { start: 5, end: 37, kind, subtype: 0 };
+        rules::broken_by_walk(&[gap, record, Event::End { offset: 37 }], 37).is_some()
+    };
+    assert_eq!([0, 1, 2, 3, 4].map(|evidence| broken(evidence, 16)), [true, true, false, false, false]);
+    assert_eq!([1, 2, 3, 4].map(|evidence| broken(evidence, 5)), [true, true, true, false]);
 }
 
 #[test]

@@ -2,11 +2,11 @@
 
 use mrt_oracle::make;
 use mrt_oracle::subject::Reading;
-use mrt_oracle::tears::{cut_out, zeroed, Tally, Written};
+use mrt_oracle::tears::{cut_out, zeroed, Tally, Written, ASKED};
 
 fn tally(file: &[u8], torn: &[u8]) -> Tally {
     let mut tally = Tally::default();
-    tally.add(&Reading, &Written::of(&Reading, file), torn);
+    tally.add(&Reading, &Written::of(&Reading, file), torn, ASKED);
     tally
 }
 

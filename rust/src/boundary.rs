@@ -234,8 +234,8 @@ pub(crate) fn judge(s: &[u8], at: usize) -> Result<[u64; 9], Refusal> {
     values(|out| unsafe { mrt_judge(s.as_ptr(), s.len(), at, out.as_mut_ptr(), out.len()) })
 }
 
-/// 1, the family, the evidence, the end; or zeros.
-pub(crate) fn candidate(s: &[u8], at: usize) -> Result<[u64; 4], Refusal> {
+/// 1, the evidence, the end; or zeros.
+pub(crate) fn candidate(s: &[u8], at: usize) -> Result<[u64; 3], Refusal> {
     // SAFETY: each slice is lent with its own length.
     values(|out| unsafe { mrt_candidate(s.as_ptr(), s.len(), at, out.as_mut_ptr(), out.len()) })
 }

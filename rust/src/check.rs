@@ -22,11 +22,12 @@ pub fn check_body(body: &[u8], kind: u16, subtype: u16, stored: StoredLength) ->
 }
 
 /// Why the octets after a gap are taken for records.
+///
+/// The number 1 is reserved and never given: it stood for a chain of candidates that starts with a type 5 record, and
+/// no scan takes one up any more.
 #[derive(Debug, Clone, Copy, PartialEq, Eq, PartialOrd, Ord, Hash)]
 #[repr(u8)]
 pub enum Evidence {
-    /// 1: a chain of candidates starts with a type 5 record.
-    Legacy = 1,
     /// 2: a chain of candidates starts with a BGP message behind its marker.
     Marker = 2,
     /// 3: a chain of candidates starts with a state change.
@@ -38,15 +39,14 @@ pub enum Evidence {
 }
 
 impl Evidence {
-    /// The number that the library and its listings have for it, 1 to 5.
+    /// The number that the library and its listings have for it, 2 to 5.
     pub const fn number(self) -> u8 {
         self as u8
     }
 
-    /// What a number that the library answers stands for. It answers 1 to 5, so the last arm is 5 alone.
+    /// What a number that the library answers stands for. It answers 2 to 5, so the last arm is 5 alone.
     pub(crate) const fn of(number: u64) -> Evidence {
         match number {
-            1 => Evidence::Legacy,
             2 => Evidence::Marker,
             3 => Evidence::StateChange,
             4 => Evidence::OwnEnd,
@@ -58,7 +58,6 @@ impl Evidence {
 impl fmt::Display for Evidence {
     fn fmt(&self, f: &mut fmt::Formatter<'_>) -> fmt::Result {
         f.write_str(match self {
-            Evidence::Legacy => "a type 5 record",
             Evidence::Marker => "a BGP marker",
             Evidence::StateChange => "a state change",
             Evidence::OwnEnd => "the refused record's own end",
@@ -67,23 +66,11 @@ impl fmt::Display for Evidence {
     }
 }
 
-/// The families of which a chain of candidates has one alone.
-#[derive(Debug, Clone, Copy, PartialEq, Eq, PartialOrd, Ord, Hash)]
-#[repr(u16)]
-pub enum Family {
-    /// Type 5.
-    Legacy = 5,
-    /// Types 16 and 17.
-    Bgp4mp = 16,
-}
-
-/// A record that a scan may take up: of type 5, 16 or 17, with all checks passed and microseconds below 1,000,000.
+/// A record that a scan may take up: of type 16 or 17, with all checks passed and microseconds below 1,000,000.
 #[derive(Debug, Clone, Copy, PartialEq, Eq, Hash)]
 #[non_exhaustive]
 pub struct Candidate {
-    /// Its family.
-    pub family: Family,
-    /// Its evidence: of the first three.
+    /// Its evidence: a marker or a state change.
     pub evidence: Evidence,
     /// Where the record ends.
     pub end: usize,
@@ -97,22 +84,26 @@ impl Candidate {
     /// [`Refusal::Beyond`] for an offset beyond the stream.
     ///
     /// ```
-    /// use mrt::{Candidate, Evidence, Family, Refusal};
+    /// use mrt::{Candidate, Evidence, Record, Refusal};
     ///
-    /// let mut stream = [0; 24];
-    /// stream[4..12].copy_from_slice(&[0, 5, 0, 7, 0, 0, 0, 12]);
+    /// // A state change between IPv4 addresses.
+    /// let mut stream = [0; 32];
+    /// stream[4..12].copy_from_slice(&[0, 16, 0, 0, 0, 0, 0, 20]);
+    /// stream[19] = 1;
     /// let candidate = Candidate::read(&stream, 0)?.unwrap();
-    /// assert_eq!((candidate.family, candidate.evidence, candidate.end), (Family::Legacy, Evidence::Legacy, 24));
+    /// assert_eq!((candidate.evidence, candidate.end), (Evidence::StateChange, 32));
     /// assert_eq!(Candidate::read(&stream, 1), Ok(None));
-    /// assert_eq!(Candidate::read(&stream, 25), Err(Refusal::Beyond));
+    /// assert_eq!(Candidate::read(&stream, 33), Err(Refusal::Beyond));
+    ///
+    /// // A record of type 5 passes its check, and no scan takes it up.
+    /// let mut old = [0; 24];
+    /// old[4..12].copy_from_slice(&[0, 5, 0, 7, 0, 0, 0, 12]);
+    /// assert!(Record::read(&old, 0).is_ok());
+    /// assert_eq!(Candidate::read(&old, 0), Ok(None));
     /// # Ok::<(), Refusal>(())
     /// ```
     pub fn read(stream: &[u8], at: usize) -> Result<Option<Candidate>, Refusal> {
-        let [stands, family, evidence, end] = boundary::candidate(stream, at)?;
-        Ok((stands == 1).then_some(Candidate {
-            family: if family == 5 { Family::Legacy } else { Family::Bgp4mp },
-            evidence: Evidence::of(evidence),
-            end: end as usize,
-        }))
+        let [stands, evidence, end] = boundary::candidate(stream, at)?;
+        Ok((stands == 1).then_some(Candidate { evidence: Evidence::of(evidence), end: end as usize }))
     }
 }

@@ -63,7 +63,7 @@ mod rows;
 mod table_dump;
 mod walk;
 
-pub use check::{Candidate, Evidence, Family, check_body};
+pub use check::{Candidate, Evidence, check_body};
 pub use header::{Frame, Header, NewHeader, Record, StoredLength, WireLength};
 pub use peers::{Added, Peer, PeerIndex, PeerTable};
 pub use refusal::Refusal;

@@ -110,6 +110,8 @@ impl From<Exhausted> for Refusal {
 /// last one ends where the stream does, unless it is the error [`Exhausted`]. Two gaps never touch. A gap that reports k
 /// confirmed records is followed by k records, or by the end where k is 0. All of this is proved of the library.
 ///
+/// A scan after damage takes up a [`Candidate`](crate::Candidate) alone: it passes over records of types 5, 12 and 13.
+///
 /// ```
 /// use mrt::{Evidence, Item, Options, Refusal, Walk};
 ///

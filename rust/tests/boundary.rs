@@ -1,5 +1,6 @@
 //! The crate's declarations held to the library's source and to `include/mrt.h`: the same calls, each with the same
-//! parameters in the same order, and the same structs field by field. All three are read as text.
+//! parameters in the same order, and the same structs field by field. All three are read as text. Which values a call
+//! leaves, and what they mean, no declaration shows: for that the header has a number, and so has the crate's version.
 
 use std::collections::{BTreeMap, BTreeSet};
 use std::fs;
@@ -204,6 +205,19 @@ fn the_crate_declares_what_the_library_exports() {
 #[test]
 fn the_crate_declares_what_the_header_does() {
     hold(&declared(), &in_c());
+}
+
+/// The number that the header gives a name.
+fn defined(name: &str) -> String {
+    let header = text("../include/mrt.h");
+    let mut words = header.lines().map(|line| line.split_whitespace().collect::<Vec<_>>());
+    let line = words.find(|words| words.starts_with(&["#define", name]));
+    line.unwrap_or_else(|| panic!("no `{name}` in the header"))[2..].concat()
+}
+
+#[test]
+fn the_minor_version_is_the_number_of_the_interface() {
+    assert_eq!(env!("CARGO_PKG_VERSION_MINOR"), defined("MRT_INTERFACE"));
 }
 
 #[test]

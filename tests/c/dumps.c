@@ -112,13 +112,13 @@ static void checked(const uint8_t *s, size_t n, const dump *d, uint32_t number) 
 static void judged(const uint8_t *body, size_t n, const dump *d, uint32_t number) {
     uint8_t *s = block(12 + n);
     put_octets(s, put(s, put(s, put(s, put(s, 0, 4, 9), 2, 12), 2, d->subtype), 4, n), n, body);
-    const uint64_t values[9] = {0, 9, 12, d->subtype, n, n, 0, 12, 12 + n}, none[4] = {0};
+    const uint64_t values[9] = {0, 9, 12, d->subtype, n, n, 0, 12, 12 + n}, none[MRT_CANDIDATE_VALUES] = {0};
     uint64_t *out = places(10);
     uint32_t got = mrt_judge(s, 12 + n, 0, out, 10);
     expect(got == number && holds(out, 10, values, got ? 0 : 9), "judge", got, number);
-    uint64_t *candidate = places(5);
-    got = mrt_candidate(s, 12 + n, 0, candidate, 5);
-    expect(got == 0 && holds(candidate, 5, none, 4), "candidate", got, n);
+    uint64_t *candidate = places(MRT_CANDIDATE_VALUES + 1);
+    got = mrt_candidate(s, 12 + n, 0, candidate, MRT_CANDIDATE_VALUES + 1);
+    expect(got == 0 && holds(candidate, MRT_CANDIDATE_VALUES + 1, none, MRT_CANDIDATE_VALUES), "candidate", got, n);
     free(s);
     free(out);
     free(candidate);

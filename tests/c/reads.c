@@ -140,29 +140,30 @@ static void judgements(void) {
     uint8_t *s = copy(stream, sizeof stream);
     const uint64_t first[9] = {0, 1, 16, 0, 20, 20, 0, 12, 32};
     const uint64_t last[9] = {51, 1, 16, 0, 20, 20, 0, 63, 83};
-    const uint64_t stands[4] = {1, 16, 3, 32}, stands_last[4] = {1, 16, 3, 83}, fails[4] = {0};
+    const uint64_t stands[MRT_CANDIDATE_VALUES] = {1, 3, 32}, stands_last[MRT_CANDIDATE_VALUES] = {1, 3, 83};
+    const uint64_t fails[MRT_CANDIDATE_VALUES] = {0};
     struct given g = {.s = s, .n = sizeof stream};
     answers("judge", judge, &g, 0, first, 9);
-    answers("candidate", candidate, &g, 0, stands, 4);
+    answers("candidate", candidate, &g, 0, stands, MRT_CANDIDATE_VALUES);
     g.at = 32;
     answers("judge 7", judge, &g, 7, first, 9);
-    answers("candidate, a peer table", candidate, &g, 0, fails, 4);
+    answers("candidate, a peer table", candidate, &g, 0, fails, MRT_CANDIDATE_VALUES);
     g.at = 51;
     answers("judge, the last", judge, &g, 0, last, 9);
-    answers("candidate, the last", candidate, &g, 0, stands_last, 4);
+    answers("candidate, the last", candidate, &g, 0, stands_last, MRT_CANDIDATE_VALUES);
     for (size_t at = 72; at <= 84; at++) {
         g.at = at;
         answers("judge at the end", judge, &g, at <= 83 ? 1 : 8, first, 9);
-        answers("candidate at the end", candidate, &g, at <= 83 ? 0 : 8, fails, 4);
+        answers("candidate at the end", candidate, &g, at <= 83 ? 0 : 8, fails, MRT_CANDIDATE_VALUES);
     }
     g.at = SIZE_MAX;
     answers("judge beyond", judge, &g, 8, first, 9);
-    answers("candidate beyond", candidate, &g, 8, fails, 4);
+    answers("candidate beyond", candidate, &g, 8, fails, MRT_CANDIDATE_VALUES);
     g = (struct given){.s = NULL, .n = 0, .at = 0};
     answers("judge nothing", judge, &g, 1, first, 9);
-    answers("candidate in nothing", candidate, &g, 0, fails, 4);
+    answers("candidate in nothing", candidate, &g, 0, fails, MRT_CANDIDATE_VALUES);
     g.at = 1;
-    answers("candidate beyond nothing", candidate, &g, 8, fails, 4);
+    answers("candidate beyond nothing", candidate, &g, 8, fails, MRT_CANDIDATE_VALUES);
     free(s);
 }
 
@@ -219,6 +220,46 @@ static void walks(void) {
     free(s);
     free(zeros);
     free(six);
+}
+
+/* A type 5 record of subtype 7. */
+static const uint8_t legacy[24] = {0, 0, 0, 9, 0, 5, 0, 7, 0, 0, 0, 12};
+
+/* One part for each letter: a type 5 record (l), a state change (s), a peer table that lacks an octet (t), 20 octets 255 (x). */
+static uint8_t *joined(const char *letters, size_t *n) {
+    uint8_t damage[20], all[200];
+    memset(damage, 255, sizeof damage);
+    for (*n = 0; *letters; letters++) {
+        const uint8_t *part = *letters == 'l' ? legacy : *letters == 's' ? stream : *letters == 't' ? stream + 32 : damage;
+        const size_t octets = *letters == 'l' ? 24 : *letters == 's' ? 32 : *letters == 't' ? 19 : 20;
+        memcpy(all + *n, part, octets);
+        *n += octets;
+    }
+    return copy(all, *n);
+}
+
+/* The gap at the front of these parts, where two records are asked for. */
+static void gap_of(const char *what, const char *letters, uint64_t end, uint64_t refusal, uint64_t evidence, uint64_t confirmed) {
+    size_t n;
+    uint8_t *s = joined(letters, &n);
+    const uint64_t gap[6] = {2, 0, end, refusal, evidence, confirmed};
+    walk_call(what, s, n, 0, 0, 1000, 2, 0, gap, 6, end, 0);
+    free(s);
+}
+
+/* A type 5 record is judged, walked and counts at a record's own end. A scan passes over it, and a chain breaks at it. */
+static void legacies(void) {
+    uint8_t *s = copy(legacy, sizeof legacy);
+    const uint64_t record[10] = {1, 0, 9, 5, 7, 12, 12, 0, 12, 24}, fails[MRT_CANDIDATE_VALUES] = {0};
+    struct given g = {.s = s, .n = sizeof legacy};
+    answers("judge, type 5", judge, &g, 0, record + 1, MRT_JUDGE_VALUES);
+    answers("candidate, type 5", candidate, &g, 0, fails, MRT_CANDIDATE_VALUES);
+    walk_call("a record of type 5", s, sizeof legacy, 0, 0, 1000, 2, 0, record, 10, 24, 0);
+    gap_of("damage and type 5 alone", "xll", 68, 2, 5, 0);
+    gap_of("type 5 before state changes", "xllss", 68, 2, 3, 2);
+    gap_of("type 5 between state changes", "xslss", 76, 2, 3, 2);
+    gap_of("type 5 at an own end", "tll", 19, 7, 4, 2);
+    free(s);
 }
 
 /* A table with a view name of two octets, an IPv4 peer with a two-octet AS and an IPv6 peer with a four-octet one. */
@@ -371,6 +412,7 @@ int main(void) {
     timed_headers();
     judgements();
     walks();
+    legacies();
     tables();
     rib(plain, sizeof plain, 2, 0);
     rib(pathed, sizeof pathed, 8, 4294967294u);

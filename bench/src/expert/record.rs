@@ -10,7 +10,7 @@ const TIMED: u64 = 0x0002_0002_0002_0000;
 /// The octets of an AS number by subtype of types 16 and 17, 0 where the subtype is not carried.
 const AS_SIZES: [u8; 12] = [2, 2, 0, 0, 4, 4, 2, 4, 2, 4, 2, 4];
 
-pub const LEGACY: u16 = 5;
+const LEGACY: u16 = 5;
 const TABLE_DUMP: u16 = 12;
 const TABLE_DUMP_V2: u16 = 13;
 pub const BGP4MP: u16 = 16;
@@ -85,7 +85,7 @@ pub fn header(rest: &[u8]) -> Result<Header, u8> {
 
 /// 0, or 5, 6 or 7.
 #[inline(always)]
-pub fn check(kind: u16, subtype: u16, body: &[u8]) -> u8 {
+fn check(kind: u16, subtype: u16, body: &[u8]) -> u8 {
     match kind {
         BGP4MP | BGP4MP_ET => bgp4mp(subtype, body),
         TABLE_DUMP_V2 if subtype == 1 => met(peers::head(body).is_some()),
@@ -116,7 +116,7 @@ fn met(condition: bool) -> u8 {
 
 /// The least and the most octets of a type 5 body.
 #[inline(always)]
-pub fn legacy_bounds(subtype: u16) -> Option<(usize, usize)> {
+fn legacy_bounds(subtype: u16) -> Option<(usize, usize)> {
     match subtype {
         1 => Some((16, 65_535)),
         3 => Some((10, 10)),
@@ -138,8 +138,9 @@ pub fn is_state_change(subtype: u16) -> bool {
     subtype == 0 || subtype == 5
 }
 
+/// 0, or 6 or 7, of a body of type 16 or 17.
 #[inline(always)]
-fn bgp4mp(subtype: u16, body: &[u8]) -> u8 {
+pub fn bgp4mp(subtype: u16, body: &[u8]) -> u8 {
     let width = as_size(subtype);
     if width == 0 {
         return 6;

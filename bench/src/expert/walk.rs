@@ -1,9 +1,6 @@
 //! Candidates, the scan and the walk.
 
-use super::record::{
-    as_size, check, header, is_state_change, judge, legacy_bounds, Record, Verdict, BGP4MP, BGP4MP_ET, LEGACY,
-};
-use mrt_oracle::answers::Header;
+use super::record::{as_size, bgp4mp, header, is_state_change, judge, Record, Verdict, BGP4MP, BGP4MP_ET};
 
 const MOST_STORED: u32 = 65_599;
 const SECOND: u32 = 1_000_000;
@@ -113,7 +110,7 @@ fn scan(stream: &[u8], from: usize, window: usize, asked: u8) -> Option<(usize, 
         // The two type octets of each distance; nearly every one is passed over here, or in a block.
         let stop = distances.min(passed + NEAR);
         for (before, pair) in types[passed..stop + 1].windows(2).enumerate() {
-            if pair[0] == 0 && matches!(pair[1], 5 | 16 | 17) {
+            if pair[0] == 0 && matches!(pair[1], 16 | 17) {
                 let offset = from + 1 + passed + before;
                 if let Some(evidence) = row(stream, offset, asked) {
                     return Some((offset, evidence));
@@ -135,42 +132,31 @@ fn scan(stream: &[u8], from: usize, window: usize, asked: u8) -> Option<(usize, 
 /// compiler takes sixteen at once.
 #[inline(always)]
 fn marked(block: &[u8; BLOCK + 7]) -> u8 {
-    let mark = |i: usize| (block[i] == 0) & (block[i + 1] >= 5) & (block[i + 4] == 0) & (block[i + 5] < 2);
+    let mark = |i: usize| (block[i] == 0) & (block[i + 1] & 0xfe == 16) & (block[i + 4] == 0) & (block[i + 5] < 2);
     (0..BLOCK).map(|i| u8::from(mark(i))).sum()
 }
 
-/// The evidence of the first of `asked` candidates of one family in a row.
+/// The evidence of the first of `asked` candidates in a row. Out of line, which is faster.
+#[inline(never)]
 fn row(stream: &[u8], at: usize, asked: u8) -> Option<u8> {
     let (first, mut end) = candidate(stream, at)?;
     for _ in 1..asked {
-        let (next, after) = candidate(stream, end)?;
-        if (next.kind == LEGACY) != (first.kind == LEGACY) {
-            return None;
-        }
-        end = after;
+        (_, end) = candidate(stream, end)?;
     }
-    Some(match first.kind {
-        LEGACY => 1,
-        _ if is_state_change(first.subtype) => 3,
-        _ => 2,
-    })
+    Some(if is_state_change(first) { 3 } else { 2 })
 }
 
-/// The header of the candidate at an offset, and where it ends.
+/// The subtype of the candidate at an offset, and where it ends.
 #[inline(always)]
-fn candidate(stream: &[u8], at: usize) -> Option<(Header, usize)> {
+fn candidate(stream: &[u8], at: usize) -> Option<(u16, usize)> {
     let rest = stream.get(at..)?;
     let header = header(rest).ok()?;
-    let stored = header.stored as usize;
-    let plausible = match header.kind {
-        LEGACY => legacy_bounds(header.subtype).is_some_and(|(low, high)| low <= stored && stored <= high),
-        BGP4MP | BGP4MP_ET => as_size(header.subtype) != 0 && header.micros < SECOND,
-        _ => false,
-    };
-    if !plausible || header.stored > MOST_STORED {
+    let carried = matches!(header.kind, BGP4MP | BGP4MP_ET) && as_size(header.subtype) != 0;
+    if !carried || header.micros >= SECOND || header.stored > MOST_STORED {
         return None;
     }
     let size = if header.kind == BGP4MP_ET { 16 } else { 12 };
+    let stored = header.stored as usize;
     let body = rest.get(size..size + stored)?;
-    (check(header.kind, header.subtype, body) == 0).then_some((header, at + size + stored))
+    (bgp4mp(header.subtype, body) == 0).then_some((header.subtype, at + size + stored))
 }

@@ -48,9 +48,9 @@ entered r = r .number ∷ r .declared ∷ r .count ∷ []
 abbrev pub judging : Judging → List ℕ
 judging j = j .frame .head .number ∷ j .start ∷ j .frame .end ∷ []
 
--- a candidate: 1, its family, its evidence and its end; or 0
+-- a candidate: 1, its evidence and its end; or 0
 abbrev pub candidacy : Candidate → List ℕ
-candidacy (stands f v e) = 1 ∷ f ∷ v ∷ e ∷ []
+candidacy (stands v e) = 1 ∷ v ∷ e ∷ []
 candidacy fails = 0 ∷ []
 
 -- a call: the walk's position, 1 where it is finished, and the answer, by a number for its kind: a record 0, a gap 1, the end
@@ -100,7 +100,7 @@ rows =
     ∷ row "OPEN of 29 octets" (bgp4mp 1 (message 1 29) ∷ []) (0 ∷ [])
     ∷ row "OPEN of 4,096 octets" (bgp4mp 1 (message 1 4096) ∷ []) (0 ∷ [])
     ∷ row "OPEN of 4,097 octets" (bgp4mp 1 (message 1 4097) ∷ []) (7 ∷ [])
-    ∷ row "a candidate's microseconds of 999,999" (candidacy (over (extended 999999) (candidateAt 0))) (1 ∷ 16 ∷ 2 ∷ 51 ∷ [])
+    ∷ row "a candidate's microseconds of 999,999" (candidacy (over (extended 999999) (candidateAt 0))) (1 ∷ 2 ∷ 51 ∷ [])
     ∷ row "a candidate's microseconds of 1,000,000" (candidacy (over (extended 1000000) (candidateAt 0))) (0 ∷ [])
     ∷ row "the walk takes microseconds of 999,999" (first (extended 999999) 0 1) (51 ∷ 0 ∷ 0 ∷ 0 ∷ 51 ∷ [])
     ∷ row "the walk takes microseconds of 1,000,000" (first (extended 1000000) 0 1) (51 ∷ 0 ∷ 0 ∷ 0 ∷ 51 ∷ [])

@@ -1,5 +1,5 @@
 -- Judgements, exported (01, Body checks; Walk, confirmation, scan): a record that is judged has its start before the values of
--- its frame; a scan's candidate has 1, its family, its evidence and where it ends, or four times 0 where the record is none.
+-- its frame; a scan's candidate has 1, its evidence and where it ends, or three times 0 where the record is none (02, wish 14).
 use Prim.Native.Nat.{ℕ}
 use mathlib.Core.List.{List, [], _∷_}
 use mathlib.Core.Bool.{cond}
@@ -22,8 +22,8 @@ judgedOut out j = exported out (j .frame .head .number) (judgeValues j)
 
 -- the values of a candidate
 abbrev pub candidateValues : Candidate → List ℕ
-candidateValues (stands f v e) = 1 ∷ f ∷ v ∷ e ∷ []
-candidateValues fails = 0 ∷ 0 ∷ 0 ∷ 0 ∷ []
+candidateValues (stands v e) = 1 ∷ v ∷ e ∷ []
+candidateValues fails = 0 ∷ 0 ∷ 0 ∷ []
 
 -- the record at an offset of the stream s, tested; an offset beyond the stream is 8
 unfoldable pub candidateOut : List ℕ → List ℕ → ℕ → List ℕ × ℕ

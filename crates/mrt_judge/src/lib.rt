@@ -39,15 +39,11 @@ pub extern "C" fn mrt_candidate(s: &[u8], at: usize, out: &mut [u64]) -> u32
     }
     match walk_candidate::candidate_at(s, at) {
         CandidateAnswer::Fails => {
-            let v = [0u64; 4];
+            let v = [0u64; 3];
             mrt_lent::hand_out(out, &v)
         }
-        CandidateAnswer::Stands {
-            family,
-            evidence,
-            end,
-        } => {
-            let v = [1, family as u64, evidence as u64, end as u64];
+        CandidateAnswer::Stands { evidence, end } => {
+            let v = [1, evidence as u64, end as u64];
             mrt_lent::hand_out(out, &v)
         }
     }

@@ -70,12 +70,8 @@ pub(crate) fn judge(a: &[u8], x: &[u8], out: &mut [u8]) -> usize {
 pub(crate) fn candidate(a: &[u8], x: &[u8], out: &mut [u8]) -> usize {
     match walk_candidate::candidate_at(a, number(x, 0)) {
         CandidateAnswer::Fails => 0,
-        CandidateAnswer::Stands {
-            family,
-            evidence,
-            end,
-        } => {
-            let values = [family as usize, evidence as usize, end];
+        CandidateAnswer::Stands { evidence, end } => {
+            let values = [evidence as usize, end];
             numbers(out, 0, &values)
         }
     }

@@ -79,7 +79,7 @@ module _ (judge : ℕ → Ask Judged) (candidate : ℕ → Ask Candidate) (sound
 
     evident-unique : (o v w : ℕ) → Evident candidate s v o → Evident candidate s w o → v ≡ w
     evident-unique o v w x y =
-        let z : stands (x .0) v (x .1) ≡ stands (y .0) w (y .1) = sym (x .2) ∙ y .2 in
+        let z : stands v (x .0) ≡ stands w (y .0) = sym (x .1) ∙ y .1 in
         let i : v ≡ w = cc in
         i
 

@@ -1,16 +1,16 @@
 -- Rows of candidates, and the least offset where one stands.
 use Prim.Native.Nat.{ℕ, zero, suc, _+_, _<_, _≤_}
 use mathlib.Core.Path.{_≡_, refl, _∙_}
-use mathlib.Core.Bool.{Bool, true, false, cond}
+use mathlib.Core.Bool.{Bool, true, false}
 use mathlib.Core.List.{List}
 use native.Mathlib.Omega.{arith}
 use lib.Dec.{eqb}
-use borrow.Author.Tests.{eq-eqb, eqb-true, eqb-false}
+use borrow.Author.Tests.{eqb-true, eqb-false}
 use Rattle.rules.specs.Ask.{Ask, done, over}
 use Rattle.rules.proofs.Asked.{over-bind}
 use Rattle.walk.specs.Judged.{Candidate, stands, fails}
-use Rattle.walk.specs.Step.{Row, whole, broken, Found, found, nowhere, whenOf, whenWhole, rowFrom, rowOn, row, scan}
-use Rattle.walk.specs.Promises.{RowOf, RowAt}
+use Rattle.walk.specs.Step.{Row, whole, broken, Found, found, nowhere, whenStands, whenWhole, rowFrom, rowOn, row, scan}
+use Rattle.walk.specs.Promises.{RowAt}
 
 module _ (candidate : ℕ → Ask Candidate) (s : List ℕ) where
   -- what stands at p: a row of n more candidates after the first, and the first of d such rows
@@ -21,38 +21,33 @@ module _ (candidate : ℕ → Ask Candidate) (s : List ℕ) where
   scan-here n p d = over s (scan candidate n p d)
 
   -- a row that the rule finds is a row
-  row-of : (n f v p u : ℕ) → over s (rowFrom candidate n f v p) ≡ whole u → RowOf candidate s f n p
-  unfolding rowFrom over whenOf
-  row-of zero f v p u h = tt
-  row-of (suc n) f v p u h = by-candidate (over s (candidate p)) refl (rw (over-bind s _ (candidate p)) at h) (λ (e : ℕ). row-of n f v e u)
+  row-of : (n v p u : ℕ) → over s (rowFrom candidate n v p) ≡ whole u → RowAt candidate s n p
+  unfolding rowFrom over whenStands
+  row-of zero v p u h = tt
+  row-of (suc n) v p u h = by-candidate (over s (candidate p)) refl (rw (over-bind s _ (candidate p)) at h) (λ (e : ℕ). row-of n v e u)
     where
-      by-candidate : (c : Candidate) → over s (candidate p) ≡ c → over s (whenOf f (rowFrom candidate n f v) (done broken) c) ≡ whole u
-          → ((e : ℕ) → over s (rowFrom candidate n f v e) ≡ whole u → RowOf candidate s f n e) → RowOf candidate s f (suc n) p
-      by-candidate (stands g w e) q h ih = by-family (eqb f g) refl h
-        where
-          by-family : (t : Bool) → eqb f g ≡ t → over s (cond t (rowFrom candidate n f v e) (done broken)) ≡ whole u
-              → RowOf candidate s f (suc n) p
-          by-family true t h = (w, e, rw (eqb-true f g t) q, ih e h)
-          by-family false t h = absurd (let z : _≡_ {A = ℕ} 0 1 = cc in omega arith)
+      by-candidate : (c : Candidate) → over s (candidate p) ≡ c → over s (whenStands (rowFrom candidate n v) (done broken) c) ≡ whole u
+          → ((e : ℕ) → over s (rowFrom candidate n v e) ≡ whole u → RowAt candidate s n e) → RowAt candidate s (suc n) p
+      by-candidate (stands w e) q h ih = (w, e, q, ih e h)
       by-candidate fails q h ih = absurd (let z : _≡_ {A = ℕ} 0 1 = cc in omega arith)
 
   -- and a row is found
-  of-row : (n f v p : ℕ) → RowOf candidate s f n p → over s (rowFrom candidate n f v p) ≡ whole v
-  unfolding rowFrom over whenOf
-  of-row zero f v p r = refl
-  of-row (suc n) f v p r = over-bind s _ (candidate p) ∙ simp (r .2, eq-eqb f f refl) (of-row n f v (r .1) (r .3))
+  of-row : (n v p : ℕ) → RowAt candidate s n p → over s (rowFrom candidate n v p) ≡ whole v
+  unfolding rowFrom over whenStands
+  of-row zero v p r = refl
+  of-row (suc n) v p r = over-bind s _ (candidate p) ∙ rw (r .2) (of-row n v (r .1) (r .3))
 
   pub row-at : (n p v : ℕ) → row-here n p ≡ whole v → RowAt candidate s (suc n) p
   unfolding row rowOn over
   row-at n p v h = by-candidate (over s (candidate p)) refl (rw (over-bind s _ (candidate p)) at h)
     where
       by-candidate : (c : Candidate) → over s (candidate p) ≡ c → over s (rowOn candidate n c) ≡ whole v → RowAt candidate s (suc n) p
-      by-candidate (stands f w e) q h = (f, (w, e, q, row-of n f w e v h))
+      by-candidate (stands w e) q h = (w, e, q, row-of n w e v h)
       by-candidate fails q h = absurd (let z : _≡_ {A = ℕ} 0 1 = cc in omega arith)
 
-  pub at-row : (n p : ℕ) (r : RowAt candidate s (suc n) p) → row-here n p ≡ whole (r .1 .0)
+  pub at-row : (n p : ℕ) (r : RowAt candidate s (suc n) p) → row-here n p ≡ whole (r .0)
   unfolding row rowOn
-  at-row n p r = over-bind s _ (candidate p) ∙ rw (r .1 .2) (of-row n (r .0) (r .1 .0) (r .1 .1) (r .1 .3))
+  at-row n p r = over-bind s _ (candidate p) ∙ rw (r .2) (of-row n (r .0) (r .1) (r .3))
 
   pub no-row : (n p : ℕ) → row-here n p ≡ broken → ¬ RowAt candidate s (suc n) p
   no-row n p h r = let q = at-row n p r in let z : _≡_ {A = ℕ} 0 1 = cc in omega arith

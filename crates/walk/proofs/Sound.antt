@@ -14,7 +14,6 @@ pub record Sound (judge : ℕ → Ask Judged) (candidate : ℕ → Ask Candidate
   -- the numbers that it is refused with, and those of what is not framed
   pub off-number : (s : List ℕ) (p r e : ℕ) → over s (judge p) ≡ off r e → (5 ≤ r) × (r ≤ 7)
   pub cut-number : (s : List ℕ) (p r : ℕ) → over s (judge p) ≡ cut r → (1 ≤ r) × (r ≤ 4)
-  -- a candidate is a record that passes, with evidence from 1 to 3
-  pub carried : (s : List ℕ) (p f v e : ℕ) → over s (candidate p) ≡ stands f v e
-      → (g : Framing) × (over s (judge p) ≡ fit g) × (g .end ≡ e)
-  pub evidence : (s : List ℕ) (p f v e : ℕ) → over s (candidate p) ≡ stands f v e → (1 ≤ v) × (v ≤ 3)
+  -- a candidate is a record that passes, with the evidence 2 or 3
+  pub carried : (s : List ℕ) (p v e : ℕ) → over s (candidate p) ≡ stands v e → (f : Framing) × (over s (judge p) ≡ fit f) × (f .end ≡ e)
+  pub evidence : (s : List ℕ) (p v e : ℕ) → over s (candidate p) ≡ stands v e → (2 ≤ v) × (v ≤ 3)

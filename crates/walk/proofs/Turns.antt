@@ -7,12 +7,12 @@ use native.Mathlib.Omega.{arith}
 use native.Mathlib.Nat.{sub-zero}
 use lib.ListN.{length}
 use lib.Dec.{eqb}
-use borrow.Author.Tests.{eq-eqb, ne-eqb, le-leb, lt-leb}
+use borrow.Author.Tests.{ne-eqb, le-leb, lt-leb}
 use Rattle.rules.specs.Ask.{Ask, done, over}
 use Rattle.rules.proofs.Asked.{over-bind}
 use Rattle.header.specs.Frame.{Framing}
 use Rattle.walk.specs.Judged.{Judged, fit, off, cut, Candidate, stands, fails}
-use Rattle.walk.specs.Step.{passed, failed, whole, broken, found, nowhere, whenFit, whenOf, whenWhole}
+use Rattle.walk.specs.Step.{passed, failed, whole, broken, found, nowhere, whenFit, whenStands, whenWhole}
 use Rattle.walk.specs.Step.{aligned, rowFrom, rowOn, row, scan}
 
 -- records from a record's own end on
@@ -51,70 +51,55 @@ module _ (candidate : ℕ → Ask Candidate) (s : List ℕ) where
   unfolding row rowOn over
   row-fails n p q = over-bind s _ (candidate p) ∙ rw q
 
-  row-first : (n p : ℕ) {f v e : ℕ} → over s (candidate p) ≡ stands f v e → over s (row candidate n p) ≡ over s (rowFrom candidate n f v e)
+  row-first : (n p : ℕ) {v e : ℕ} → over s (candidate p) ≡ stands v e → over s (row candidate n p) ≡ over s (rowFrom candidate n v e)
   unfolding row rowOn
   row-first n p q = over-bind s _ (candidate p) ∙ rw q
 
-  -- i of n candidates of the family f stand, and the next is looked for at p
-  module _ (n i f v p : ℕ) (l : i < n) where
+  -- i of n candidates stand, and the next is looked for at p
+  module _ (n i v p : ℕ) (l : i < n) where
     left : n - i ≡ suc (n - suc i)
     left = omega arith
 
-    row-breaks : over s (candidate p) ≡ fails → over s (rowFrom candidate (n - i) f v p) ≡ broken
-    unfolding rowFrom whenOf over
+    row-breaks : over s (candidate p) ≡ fails → over s (rowFrom candidate (n - i) v p) ≡ broken
+    unfolding rowFrom whenStands over
     row-breaks q = rw left (over-bind s _ (candidate p) ∙ rw q)
 
-    module _ {g w e : ℕ} (q : over s (candidate p) ≡ stands g w e) where
-      row-parts : (g ≡ f → ⊥) → over s (rowFrom candidate (n - i) f v p) ≡ broken
-      unfolding rowFrom whenOf over
-      row-parts o = rw left (over-bind s _ (candidate p) ∙ simp (q, ne-eqb f g (λ x. o (sym x))))
+    row-goes : {w e : ℕ} → over s (candidate p) ≡ stands w e
+        → over s (rowFrom candidate (n - i) v p) ≡ over s (rowFrom candidate (n - suc i) v e)
+    unfolding rowFrom whenStands
+    row-goes q = rw left (over-bind s _ (candidate p) ∙ rw q)
 
-      row-goes : g ≡ f → over s (rowFrom candidate (n - i) f v p) ≡ over s (rowFrom candidate (n - suc i) f v e)
-      unfolding rowFrom whenOf
-      row-goes o = rw left (over-bind s _ (candidate p) ∙ simp (q, eq-eqb f g (sym o)))
-
-  -- the row at o, of n candidates after the first: i have stood, of the family f and by the evidence v, and the next is looked for at p
+  -- the row at o, of n candidates after the first: i have stood, by the evidence v, and the next is looked for at p
   module _ (n o : ℕ) where
-    pub Stood : ℕ → ℕ → ℕ → ℕ → Type 0
-    Stood zero f v p = p ≡ o
-    Stood (suc i) f v p = over s (row candidate n o) ≡ over s (rowFrom candidate (n - i) f v p)
+    pub Stood : ℕ → ℕ → ℕ → Type 0
+    Stood zero v p = p ≡ o
+    Stood (suc i) v p = over s (row candidate n o) ≡ over s (rowFrom candidate (n - i) v p)
 
-    pub row-starts : (f v : ℕ) → Stood 0 f v o
+    pub row-starts : (v : ℕ) → Stood 0 v o
     unfolding Stood
-    row-starts f v = refl
+    row-starts v = refl
 
-    pub row-ends : (i f v p : ℕ) → i ≤ n → Stood i f v p → over s (candidate p) ≡ fails → broken ≡ over s (row candidate n o)
+    pub row-ends : (i v p : ℕ) → i ≤ n → Stood i v p → over s (candidate p) ≡ fails → broken ≡ over s (row candidate n o)
     unfolding Stood
-    row-ends zero f v p l h q = sym (row-fails n o (rw h at q))
-    row-ends (suc i) f v p l h q = sym (h ∙ row-breaks n i f v p l q)
+    row-ends zero v p l h q = sym (row-fails n o (rw h at q))
+    row-ends (suc i) v p l h q = sym (h ∙ row-breaks n i v p l q)
 
-    -- the first sets the family, and the evidence
-    later : (i a b : ℕ) → cond (eqb (suc i) 0) a b ≡ b
-    later i a b = simp (ne-eqb (suc i) 0 (λ z. omega arith))
-
-    -- one more stands, of the family g
-    module _ {g w e : ℕ} where
-      pub row-other : (i f v p : ℕ) → i ≤ n → Stood i f v p → over s (candidate p) ≡ stands g w e
-          → {f' : ℕ} → f' ≡ cond (eqb i 0) g f → (g ≡ f' → ⊥) → broken ≡ over s (row candidate n o)
-      unfolding Stood
-      row-other zero f v p l h q x d = absurd (d (sym x))
-      row-other (suc i) f v p l h q x d = sym (h ∙ row-parts n i f v p l q (λ y. d (y ∙ sym (x ∙ later i g f))))
-
-      pub row-turned : (i f v p : ℕ) → i ≤ n → Stood i f v p → over s (candidate p) ≡ stands g w e
-          → {f' v' : ℕ} → f' ≡ cond (eqb i 0) g f → v' ≡ cond (eqb i 0) w v → g ≡ f'
-          → over s (row candidate n o) ≡ over s (rowFrom candidate (n - i) f' v' e)
-      unfolding Stood
-      row-turned zero f v p l h q x y d = rw (x, y, sub-zero) (row-first n o (rw h at q))
-      row-turned (suc i) f v p l h q x y d = rw (x ∙ later i g f, y ∙ later i w v) (h ∙ row-goes n i f v p l q (d ∙ x ∙ later i g f))
-
-    pub row-whole : (i f v p : ℕ) → n ≤ i → over s (row candidate n o) ≡ over s (rowFrom candidate (n - i) f v p)
-        → whole v ≡ over s (row candidate n o)
-    unfolding rowFrom over
-    row-whole i f v p l h = let z : n - i ≡ 0 = omega arith in sym (h ∙ rw z)
-
-    pub row-longer : (i f v p : ℕ) → over s (row candidate n o) ≡ over s (rowFrom candidate (n - i) f v p) → Stood (i + 1) f v p
+    -- one more stands; the first sets the evidence
+    pub row-turned : {w e : ℕ} (i v p : ℕ) → i ≤ n → Stood i v p → over s (candidate p) ≡ stands w e
+        → {v' : ℕ} → v' ≡ cond (eqb i 0) w v → Stood (i + 1) v' e
     unfolding Stood
-    row-longer i f v p h = let z : i + 1 ≡ suc i = omega arith in rw z h
+    row-turned zero v p l h q y = rw (y, sub-zero) (row-first n o (rw h at q))
+    row-turned (suc i) v p l h q y =
+        let a : suc i + 1 ≡ suc (suc i) = omega arith in
+        let b = ne-eqb (suc i) 0 (λ z. omega arith) in
+        rw (a, y, b) (h ∙ row-goes n i v p l q)
+
+    pub row-whole : (i v p : ℕ) → n ≤ i → Stood (i + 1) v p → whole v ≡ over s (row candidate n o)
+    unfolding Stood rowFrom over
+    row-whole i v p l h =
+        let a : i + 1 ≡ suc i = omega arith in
+        let b : n - i ≡ 0 = omega arith in
+        sym ((rw a at h) ∙ rw b)
 
   -- the scan from p of a window, for n candidates after the first
   module _ (n p window : ℕ) where

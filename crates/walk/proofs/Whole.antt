@@ -11,7 +11,7 @@ use Rattle.walk.specs.Judged.{Judged, fit, off, Candidate}
 use Rattle.walk.specs.Step.{Answer, handed, gap, end, refused, Stepped, at, freshWalk, finishedAt, stopped, asked, nowhere, scan}
 use Rattle.walk.specs.Promises.{upTo, answers, Run, heard, Covers, Passed, Records, Follows, Confirmed, NoGap, Apart}
 use Rattle.walk.specs.Promises.{RunTo, Confirms, Off, Scans, unconfirmed}
-use Rattle.walk.specs.Promises.{unframed as unframed-at, RowOf, Evident, NoRow, own as own-end, least, none as none-left}
+use Rattle.walk.specs.Promises.{unframed as unframed-at, RowAt, Evident, NoRow, own as own-end, least, none as none-left}
 use Rattle.walk.specs.Promises.{Sought, Promised}
 use Rattle.walk.specs.Promises.{Last, over as over-last, shut}
 use Rattle.walk.specs.declared.Walk.{Walk}
@@ -23,11 +23,11 @@ use Rattle.walk.proofs.Calls.{call-end, call-fit, call-finished}
 
 module _ (judge : ℕ → Ask Judged) (candidate : ℕ → Ask Candidate) (sound : Sound judge candidate) (s : List ℕ) where
   -- a row of candidates is a run of records that pass
-  row-runs : (f c p : ℕ) → RowOf candidate s f c p → (e : ℕ) × RunTo judge s c p e
-  row-runs f zero p r = (p, refl)
-  row-runs f (suc c) p r =
-      let j = sound .carried s p f (r .0) (r .1) (r .2) in
-      let t = row-runs f c (r .1) (r .3) in
+  row-runs : (c p : ℕ) → RowAt candidate s c p → (e : ℕ) × RunTo judge s c p e
+  row-runs zero p r = (p, refl)
+  row-runs (suc c) p r =
+      let j = sound .carried s p (r .0) (r .1) (r .2) in
+      let t = row-runs c (r .1) (r .3) in
       (t .0, (j .0, j .1, rw (j .2) (t .1)))
 
   module _ (window k : ℕ) where
@@ -124,15 +124,15 @@ module _ (judge : ℕ → Ask Judged) (candidate : ℕ → Ask Candidate) (sound
     by-call m p en l b x (takes r o v u i q) =
         let y = scan-found candidate s (k - 1) window (suc p) o v q in
         let w = row-at candidate s (k - 1) o v (y .here) in
-        let f = row-runs (w .0) (asked k) o (w .1) in
+        let f = row-runs (asked k) o w in
         let g = sound .fits s o (f .1 .0) (f .1 .1) in
         let lo : p < o = y .low in
         let to : o ≤ length s = omega arith in
         let h : o < suc p + window = y .high in
-        let ev : v ≡ w .1 .0 = let n = at-row candidate s (k - 1) o w in let z = y .here in cc in
-        let d = sound .evidence s o (w .0) (w .1 .0) (w .1 .1) (w .1 .2) in
+        let ev : v ≡ w .0 = let n = at-row candidate s (k - 1) o w in let z = y .here in cc in
+        let d = sound .evidence s o (w .0) (w .1) (w .2) in
         let hi : o ≤ p + window = omega arith in
-        let by : Evident candidate s v o = rw ev (w .0, w .1 .1, w .1 .2, d .0, d .1) in
+        let by : Evident candidate s v o = rw ev (w .1, w .2, d .0, d .1) in
         let a = after m p o (asked k) (f .0) en lo to (f .1) (λ z. absurd (omega arith)) b in
         record {
           covers = (refl, lo, to, a .1 .covers);
@@ -181,7 +181,7 @@ module _ (judge : ℕ → Ask Judged) (candidate : ℕ → Ask Candidate) (sound
     by-within p x l (takes r o v u i q) =
         let y = scan-found candidate s (k - 1) window (suc p) o v q in
         let w = row-at candidate s (k - 1) o v (y .here) in
-        let f = row-runs (w .0) (asked k) o (w .1) in
+        let f = row-runs (asked k) o w in
         let g = sound .fits s o (f .1 .0) (f .1 .1) in
         omega arith
     by-within p x l (none r u i q w t) = omega arith

@@ -10,7 +10,7 @@ pub data Judged : Type 0 where
   off : ℕ → ℕ → Judged
   cut : ℕ → Judged
 
--- stands: a record that a scan may take up: its family, its evidence, and where it ends
+-- stands: a record that a scan may take up: its evidence, and where it ends
 pub data Candidate : Type 0 where
-  stands : ℕ → ℕ → ℕ → Candidate
+  stands : ℕ → ℕ → Candidate
   fails : Candidate

@@ -116,18 +116,14 @@ module _ (judge : ℕ → Ask Judged) (s : List ℕ) where
     unconfirmed : (e : ℕ) → Off p r e → ((c : ℕ) → ¬ Confirms k e c) → Scans k p r
 
 module _ (candidate : ℕ → Ask Candidate) (s : List ℕ) where
-  -- c candidates of the family f stand in a row from p on
-  abbrev pub RowOf : ℕ → ℕ → ℕ → Type 0
-  RowOf f zero p = Unit
-  RowOf f (suc c) p = (v : ℕ) × (e : ℕ) × (ask.over s (candidate p) ≡ stands f v e) × RowOf f c e
-
-  -- c candidates of one family stand in a row from p on
+  -- c candidates stand in a row from p on
   abbrev pub RowAt : ℕ → ℕ → Type 0
-  RowAt c p = (f : ℕ) × RowOf f c p
+  RowAt zero p = Unit
+  RowAt (suc c) p = (v : ℕ) × (e : ℕ) × (ask.over s (candidate p) ≡ stands v e) × RowAt c e
 
-  -- the candidate at p has the evidence v: 1, 2 or 3
+  -- the candidate at p has the evidence v: 2 or 3
   abbrev pub Evident : ℕ → ℕ → Type 0
-  Evident v p = (f : ℕ) × (e : ℕ) × (ask.over s (candidate p) ≡ stands f v e) × (1 ≤ v) × (v ≤ 3)
+  Evident v p = (e : ℕ) × (ask.over s (candidate p) ≡ stands v e) × (2 ≤ v) × (v ≤ 3)
 
   -- no such row starts at a distance from 1 to the window after p
   abbrev pub NoRow : ℕ → ℕ → ℕ → Type 0

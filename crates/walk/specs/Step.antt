@@ -1,7 +1,6 @@
 -- One call of the recovering walk (01, Walk, confirmation, scan), over any way to judge a record and a candidate.
 use Prim.Native.Nat.{ℕ, zero, suc, _+_, _-_}
 use mathlib.Core.Bool.{true, false, cond}
-use lib.Dec.{eqb}
 use Rattle.rules.specs.Ask.{Ask, done, has, _>>=_}
 use Rattle.header.specs.Frame.{Framing}
 use Rattle.walk.specs.Judged.{Judged, fit, off, cut, Candidate, stands, fails}
@@ -65,10 +64,10 @@ whenFit a b (fit f) = a (f .end)
 whenFit a b (off r e) = b
 whenFit a b (cut r) = b
 
--- go on where a candidate of the family f ends, and otherwise with b
-unfoldable pub whenOf : {A : Type 0} → ℕ → (ℕ → A) → A → Candidate → A
-whenOf f a b (stands g v e) = cond (eqb f g) (a e) b
-whenOf f a b fails = b
+-- go on where a candidate ends, and otherwise with b
+unfoldable pub whenStands : {A : Type 0} → (ℕ → A) → A → Candidate → A
+whenStands a b (stands v e) = a e
+whenStands a b fails = b
 
 -- go on with the evidence of a row that stands, and otherwise with b (a function, so that it waits)
 unfoldable pub whenWhole : {A : Type 0} → (ℕ → A) → (Unit {0} → A) → Row → A
@@ -82,16 +81,16 @@ module _ (judge : ℕ → Ask Judged) where
   aligned (suc n) m p = has (suc p) (judge p >>= whenFit (aligned n (suc m)) (done failed)) (λ l. done (passed m))
 
 module _ (candidate : ℕ → Ask Candidate) where
-  -- n more candidates of the family f stand from p on; v is the evidence of the first
-  unfoldable pub rowFrom : ℕ → ℕ → ℕ → ℕ → Ask Row
-  rowFrom zero f v p = done (whole v)
-  rowFrom (suc n) f v p = candidate p >>= whenOf f (rowFrom n f v) (done broken)
+  -- n more candidates stand from p on; v is the evidence of the first
+  unfoldable pub rowFrom : ℕ → ℕ → ℕ → Ask Row
+  rowFrom zero v p = done (whole v)
+  rowFrom (suc n) v p = candidate p >>= whenStands (rowFrom n v) (done broken)
 
   unfoldable pub rowOn : ℕ → Candidate → Ask Row
-  rowOn n (stands f v e) = rowFrom n f v e
+  rowOn n (stands v e) = rowFrom n v e
   rowOn n fails = done broken
 
-  -- a candidate at p, and n more of its family after it
+  -- a candidate at p, and n more straight after it
   unfoldable pub row : ℕ → ℕ → Ask Row
   row n p = candidate p >>= rowOn n
 

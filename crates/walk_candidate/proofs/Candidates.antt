@@ -6,7 +6,7 @@ use mathlib.Core.List.{List}
 use native.Mathlib.Omega.{arith}
 use lib.ListN.{length, drop, getD}
 use lib.Dec.{leb, eqb}
-use borrow.Author.Tests.{lt-leb, le-leb, lt-ltb, le-ltb, leb-true, leb-false, eq-eqb, ne-eqb, eqb-true}
+use borrow.Author.Tests.{lt-leb, le-leb, lt-ltb, le-ltb, leb-true, leb-false, ne-eqb, eqb-true}
 use Rattle.octets.specs.Octets.{beAt}
 use Rattle.octets.proofs.Numbers.{be-drop, be-halves, be-one}
 use Rattle.rules.specs.Ask.{done, _>>=_, over, past}
@@ -15,39 +15,33 @@ use Rattle.header.specs.Read.{Heading, refused, accepted, header, headerAt}
 use Rattle.header.specs.Frame.{Framing, framed, frame}
 use Rattle.header.proofs.Reading.{header-kind, header-stored}
 use Rattle.header.proofs.Framing.{read-within}
-use Rattle.walk_checks.specs.Legacy.{legacy}
 use Rattle.walk_checks.specs.Bgp4mp.{asSize, stateChange}
 use Rattle.walk.specs.Judged.{Judged, fit, off, cut, stands, fails}
 use Rattle.walk.proofs.Sound.{Sound}
 use Rattle.walk_judge.specs.Record.{verdict, judge, judgeAt}
-use Rattle.walk_candidate.specs.Candidate.{family, evidence, plausible, standing, headed, candidate, candidateAt}
+use Rattle.walk_candidate.specs.Candidate.{takenUp, evidence, plausible, standing, headed, candidate, candidateAt}
 use Rattle.walk_judge.proofs.Soundness.{judge-left, inside, off-number, cut-number}
 
-pub family-rest : (k : ℕ) → (k ≡ 5 → ⊥) → (k ≡ 16 → ⊥) → (k ≡ 17 → ⊥) → 0 ≡ family k
-unfolding family
-family-rest k a b c = simp (ne-eqb _ _ a, ne-eqb _ _ b, ne-eqb _ _ c)
+pub not-taken-up : (k : ℕ) → (k ≡ 16 → ⊥) → (k ≡ 17 → ⊥) → false ≡ takenUp k
+unfolding takenUp
+not-taken-up k a b = simp (ne-eqb _ _ a, ne-eqb _ _ b)
 
-module _ (k u : ℕ) where
-  pub evidence-legacy : k ≡ 5 → 1 ≡ evidence k u
+module _ (u : ℕ) where
+  pub evidence-states : stateChange u ≡ true → 3 ≡ evidence u
   unfolding evidence
-  evidence-legacy e = simp (eq-eqb _ _ e)
+  evidence-states e = simp e
 
-  pub evidence-states : (k ≡ 5 → ⊥) → stateChange u ≡ true → 3 ≡ evidence k u
+  pub evidence-marker : stateChange u ≡ false → 2 ≡ evidence u
   unfolding evidence
-  evidence-states n e = simp (ne-eqb _ _ n, e)
+  evidence-marker e = simp e
 
-  pub evidence-marker : (k ≡ 5 → ⊥) → stateChange u ≡ false → 2 ≡ evidence k u
+  evidence-between : (2 ≤ evidence u) × (evidence u ≤ 3)
   unfolding evidence
-  evidence-marker n e = simp (ne-eqb _ _ n, e)
-
-  evidence-between : (1 ≤ evidence k u) × (evidence k u ≤ 3)
-  unfolding evidence
-  evidence-between = by-tests (eqb k 5) (stateChange u)
+  evidence-between = by-test (stateChange u)
     where
-      by-tests : (t v : Bool) → (1 ≤ cond t 1 (cond v 3 2)) × (cond t 1 (cond v 3 2) ≤ 3)
-      by-tests true v = (omega arith, omega arith)
-      by-tests false true = (omega arith, omega arith)
-      by-tests false false = (omega arith, omega arith)
+      by-test : (t : Bool) → (2 ≤ cond t 3 2) × (cond t 3 2 ≤ 3)
+      by-test true = (omega arith, omega arith)
+      by-test false = (omega arith, omega arith)
 
 -- a judged record as a candidate, by its cases
 module _ {j : Judged} where
@@ -59,13 +53,17 @@ module _ {j : Judged} where
   unfolding standing
   standing-off e = rw (← e)
 
-  pub standing-fit : {f : Framing} → fit f ≡ j → {g x : ℕ} → g ≡ family (f .head .kind) → x ≡ evidence (f .head .kind) (f .head .subtype)
-      → stands g x (f .end) ≡ standing j
+  pub standing-fit : {f : Framing} → fit f ≡ j → {x : ℕ} → x ≡ evidence (f .head .subtype) → stands x (f .end) ≡ standing j
   unfolding standing
-  standing-fit e p q = rw (← e, p, q)
+  standing-fit e q = rw (← e, q)
 
 -- what the header alone decides
 module _ (k u n us : ℕ) where
+  -- a type that a scan does not take up on
+  pub plausible-type : false ≡ takenUp k → false ≡ plausible k u n us
+  unfolding plausible
+  plausible-type e = simp (← e)
+
   -- a length that no candidate has
   pub plausible-long : 65599 < n → false ≡ plausible k u n us
   unfolding plausible
@@ -76,26 +74,9 @@ module _ (k u n us : ℕ) where
   unfolding plausible
   plausible-late m = simp (le-ltb us 1000000 m, and-false)
 
-  -- f is its family
-  module _ {f : ℕ} (e : f ≡ family k) where
-    pub plausible-family : f ≡ 0 → false ≡ plausible k u n us
-    unfolding plausible
-    plausible-family z = simp (← e, eq-eqb _ _ z)
-
-    module _ (g : f ≡ 0 → ⊥) (l : n ≤ 65599) (m : us < 1000000) where
-      pub plausible-message : (k ≡ 5 → ⊥) → not (eqb (asSize u) 0) ≡ plausible k u n us
-      unfolding plausible
-      plausible-message i = simp (← e, ne-eqb _ _ g, le-leb _ _ l, lt-ltb _ _ m, ne-eqb _ _ i, and-true)
-
-      pub plausible-legacy : k ≡ 5 → {x : ℕ} → x ≡ legacy u n → eqb x 0 ≡ plausible k u n us
-      unfolding plausible
-      plausible-legacy i {x} q =
-          by-test (eqb x 0) refl ∙ simp (← e, ne-eqb _ _ g, le-leb _ _ l, lt-ltb _ _ m, eq-eqb _ _ i, q, and-true)
-        where
-          -- 0 is not 6
-          by-test : (t : Bool) → eqb x 0 ≡ t → t ≡ (not (eqb x 6) && t)
-          by-test true t = let z : x ≡ 0 = eqb-true _ _ t in simp (ne-eqb x 6 (λ y. omega arith))
-          by-test false t = simp and-false
+  pub plausible-rest : takenUp k ≡ true → n ≤ 65599 → us < 1000000 → not (eqb (asSize u) 0) ≡ plausible k u n us
+  unfolding plausible
+  plausible-rest e l m = simp (e, le-leb _ _ l, lt-ltb _ _ m, and-true)
 
 -- whether a header may begin a candidate
 abbrev plausible-head : Heading → Bool
@@ -156,38 +137,34 @@ module _ (s : List ℕ) (p : ℕ) where
         by-number true t = sym (h (eqb-true _ _ t))
         by-number false t = refl
 
-    candidate-other : {k f : ℕ} → k ≡ beAt s (p + 4) 2 → f ≡ family k → f ≡ 0 → fails ≡ over s (candidateAt p)
-    candidate-other {k} e g z =
-        not-plausible (λ t. let h : over (drop p s) header .kind ≡ k = header-kind (drop p s) t ∙ be-drop s p 4 2 ∙ sym e in
-        plausible-family (over (drop p s) header .kind) _ _ _ (g ∙ ap family (sym h)) z)
-
-    -- a type of 256 or more is of no family
-    pub candidate-high : (getD s (p + 4) 0 ≡ 0 → ⊥) → fails ≡ over s (candidateAt p)
-    candidate-high h =
-        let e = type-octets in
-        candidate-other refl (family-rest (beAt s (p + 4) 2) (λ z. omega arith) (λ z. omega arith) (λ z. omega arith)) refl
-
-    -- nor is any other below it
-    pub candidate-low : getD s (p + 4) 0 ≡ 0 → (getD s (p + 5) 0 ≡ 5 → ⊥) → (16 ≤ getD s (p + 5) 0 → getD s (p + 5) 0 ≤ 17 → ⊥)
-        → fails ≡ over s (candidateAt p)
-    candidate-low h a b =
-        let e = type-octets in
-        candidate-other refl
-        (family-rest _ (λ z. a (omega arith)) (λ z. b (omega arith) (omega arith)) (λ z. b (omega arith) (omega arith))) refl
+    -- a type that is neither 16 nor 17
+    candidate-other : (beAt s (p + 4) 2 ≡ 16 → ⊥) → (beAt s (p + 4) 2 ≡ 17 → ⊥) → fails ≡ over s (candidateAt p)
+    candidate-other a b =
+        not-plausible (λ t. let h : over (drop p s) header .kind ≡ beAt s (p + 4) 2 = header-kind (drop p s) t ∙ be-drop s p 4 2 in
+        plausible-type (over (drop p s) header .kind) _ _ _ (rw h (not-taken-up _ a b)))
 
     -- a wire length that no candidate has
-    candidate-long : {w : ℕ} → w ≡ beAt s (p + 8) 4 → 65603 < w → fails ≡ over s (candidateAt p)
-    candidate-long e m =
+    candidate-long : 65603 < beAt s (p + 8) 4 → fails ≡ over s (candidateAt p)
+    candidate-long m =
         not-plausible (λ t. let h : beAt (drop p s) 8 4 ≤ over (drop p s) header .stored + 4 = header-stored (drop p s) t in
         let d : beAt (drop p s) 8 4 ≡ beAt s (p + 8) 4 = be-drop s p 8 4 in
         plausible-long _ _ _ _ (omega arith))
 
-    -- the same by the length's first two octets
-    pub candidate-huge : (getD s (p + 8) 0 ≡ 0 → ⊥) → fails ≡ over s (candidateAt p)
-    candidate-huge h = let e = length-octets in candidate-long refl (omega arith)
-
-    pub candidate-large : 1 < getD s (p + 9) 0 → fails ≡ over s (candidateAt p)
-    candidate-large h = let e = length-octets in candidate-long refl (omega arith)
+    -- either, by the octets of the type and the first two of the length
+    pub candidate-unmarked :
+        (getD s (p + 4) 0 ≡ 0 → 16 ≤ getD s (p + 5) 0 → getD s (p + 5) 0 ≤ 17 → getD s (p + 8) 0 ≡ 0 → 1 < getD s (p + 9) 0)
+        → fails ≡ over s (candidateAt p)
+    candidate-unmarked h = by-length (leb (beAt s (p + 8) 4) 65603) refl
+      where
+        by-length : (t : Bool) → leb (beAt s (p + 8) 4) 65603 ≡ t → fails ≡ over s (candidateAt p)
+        by-length true t =
+            let m : beAt s (p + 8) 4 ≤ 65603 = leb-true _ _ t in
+            let e = type-octets in
+            let f = length-octets in
+            candidate-other
+            (λ x. let z = h (omega arith) (omega arith) (omega arith) (omega arith) in omega arith)
+            (λ x. let z = h (omega arith) (omega arith) (omega arith) (omega arith) in omega arith)
+        by-length false t = candidate-long (leb-false _ _ t)
 
     -- the header that was read there
     read-there : over (drop p s) header ≡ headerAt s p
@@ -210,27 +187,22 @@ module _ (s : List ℕ) (p : ℕ) where
         let l = read-within s p e in
         rw (candidate-left l, candidate-over (drop p s) p, read-there l, ← e, q, judge-left s p l)
 
-    -- THEOREM. Where a header is read whose type is of no family, no candidate stands, whatever its body is.
-    pub no-candidate : family k ≡ 0 → fails ≡ over s (candidateAt p)
-    no-candidate z = candidate-implausible (sym (plausible-family k u n us (sym z) refl))
+    -- THEOREM. Where a header is read whose type is neither 16 nor 17, no candidate stands, whatever its body is.
+    pub no-candidate : (k ≡ 16 → ⊥) → (k ≡ 17 → ⊥) → fails ≡ over s (candidateAt p)
+    no-candidate a b = candidate-implausible (sym (plausible-type k u n us (not-taken-up k a b)))
 
--- so a scan takes up on no record of type 12 or 13
-pub no-dumps : (family 12 ≡ 0) × (family 13 ≡ 0)
-unfolding family
-no-dumps = (refl, refl)
-
--- THEOREM. A candidate is a record that the judgement accepts, with the same end, and its evidence is 1, 2 or 3.
+-- THEOREM. A candidate is a record that the judgement accepts, with the same end, and its evidence is 2 or 3.
 pub record Accepted (s : List ℕ) (p v e : ℕ) : Type 0 where
   pub frame : Framing
   pub accepted : over s (judgeAt p) ≡ fit frame
   pub same-end : frame .end ≡ e
-  pub between : (1 ≤ v) × (v ≤ 3)
+  pub between : (2 ≤ v) × (v ≤ 3)
 
-pub candidate-accepted : (s : List ℕ) (p f v e : ℕ) → over s (candidateAt p) ≡ stands f v e → Accepted s p v e
+pub candidate-accepted : (s : List ℕ) (p v e : ℕ) → over s (candidateAt p) ≡ stands v e → Accepted s p v e
 unfolding standing
-candidate-accepted s p f v e q = by-place (leb p (length s)) refl
+candidate-accepted s p v e q = by-place (leb p (length s)) refl
   where
-    by-judged : p ≤ length s → (j : Judged) → over (drop p s) (judge p) ≡ j → (t : Bool) → cond t (standing j) fails ≡ stands f v e
+    by-judged : p ≤ length s → (j : Judged) → over (drop p s) (judge p) ≡ j → (t : Bool) → cond t (standing j) fails ≡ stands v e
         → Accepted s p v e
     by-judged l (off r x) z true q = absurd (let y : _≡_ {A = ℕ} 0 1 = cc in omega arith)
     by-judged l (cut r) z true q = absurd (let y : _≡_ {A = ℕ} 0 1 = cc in omega arith)
@@ -239,8 +211,8 @@ candidate-accepted s p f v e q = by-place (leb p (length s)) refl
     by-judged l (fit g) z false q = absurd (let y : _≡_ {A = ℕ} 0 1 = cc in omega arith)
     by-judged l (fit g) z true q =
         let x : g .end ≡ e = cc in
-        let w : evidence (g .head .kind) (g .head .subtype) ≡ v = cc in
-        let y = evidence-between (g .head .kind) (g .head .subtype) in
+        let w : evidence (g .head .subtype) ≡ v = cc in
+        let y = evidence-between (g .head .subtype) in
         record { frame = g; accepted = judge-left s p l ∙ z; same-end = x; between = rw w at y }
 
     by-place : (t : Bool) → leb p (length s) ≡ t → Accepted s p v e
@@ -261,6 +233,6 @@ sound =
       offs = λ s p r e q. rw q at (inside s p);
       off-number = off-number;
       cut-number = cut-number;
-      carried = λ s p f v e q. let a = candidate-accepted s p f v e q in (a .frame, a .accepted, a .same-end);
-      evidence = λ s p f v e q. candidate-accepted s p f v e q .between;
+      carried = λ s p v e q. let a = candidate-accepted s p v e q in (a .frame, a .accepted, a .same-end);
+      evidence = λ s p v e q. candidate-accepted s p v e q .between;
     }

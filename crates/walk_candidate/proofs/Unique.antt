@@ -7,11 +7,10 @@ use Rattle.walk_candidate.specs.declared.CandidateAnswer.{CandidateAnswe
 use Rattle.walk_candidate.specs.declared.CandidateAnswer.the-variants.{Stands, Fails}
 
 pub candidacy-unique : (a b : CandidateAnswer) → candidacy a ≡ candidacy b → a ≡ b
-candidacy-unique (Stands f v e) (Stands g w d) q =
-    let x : f ≡ g = cc in
+candidacy-unique (Stands v e) (Stands w d) q =
     let y : v ≡ w = cc in
     let z : e ≡ d = cc in
-    rw (x, y, z)
-candidacy-unique (Stands f v e) Fails q = absurd (let n : _≡_ {A = ℕ} 0 1 = cc in omega arith)
-candidacy-unique Fails (Stands f v e) q = absurd (let n : _≡_ {A = ℕ} 0 1 = cc in omega arith)
+    rw (y, z)
+candidacy-unique (Stands v e) Fails q = absurd (let n : _≡_ {A = ℕ} 0 1 = cc in omega arith)
+candidacy-unique Fails (Stands v e) q = absurd (let n : _≡_ {A = ℕ} 0 1 = cc in omega arith)
 candidacy-unique Fails Fails q = refl

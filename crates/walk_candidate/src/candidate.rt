@@ -3,7 +3,7 @@ ghost use mathlib.Core.Path.{_≡_};
 ghost use Rattle.rules.specs.Ask.{over};
 ghost use Rattle.header.specs.Read.{headerAt, values};
 ghost use Rattle.walk_judge.specs.Record.{judgeAt};
-ghost use Rattle.walk_candidate.specs.Candidate.{candidacy, candidateAt, family, evidence, plausible, standing};
+ghost use Rattle.walk_candidate.specs.Candidate.{candidacy, candidateAt, takenUp, evidence, plausible, standing};
 use crate::CandidateAnswer;
 use answer::Outcome;
 use header::CommonHeader;
@@ -40,8 +40,7 @@ fn take_up(s: &[u8], at: usize, header: CommonHeader, wire: WireLength) -> Candi
     match walk_judge::check_body(&s[body..end], h.kind, h.subtype, h.length) {
         Outcome::Refused(_) => CandidateAnswer::Fails,
         Outcome::Accepted => CandidateAnswer::Stands {
-            family: family_of(h.kind),
-            evidence: evidence_of(h.kind, h.subtype),
+            evidence: evidence_of(h.subtype),
             end,
         },
     }
@@ -51,9 +50,8 @@ fn take_up(s: &[u8], at: usize, header: CommonHeader, wire: WireLength) -> Candi
 fn is_plausible(h: CommonHeader) -> bool
     ensures { λ r. ⌜ r ≡ plausible (h .kind) (h .subtype) (h .length .0) (h .micros) ⌝ }
 {
-    let kind = h.kind;
     let length = h.length;
-    if family_of(kind) == 0 {
+    if !is_taken_up(h.kind) {
         return false;
     }
     if 65599 < length.0 {
@@ -62,32 +60,22 @@ fn is_plausible(h: CommonHeader) -> bool
     if 1000000 <= h.micros {
         return false;
     }
-    if kind != 5 {
-        return walk_checks::is_carried(h.subtype);
-    }
-    match walk_checks::check_legacy(h.subtype, length) {
-        Outcome::Accepted => true,
-        Outcome::Refused(_) => false,
-    }
+    walk_checks::is_carried(h.subtype)
 }
 
-fn family_of(kind: u16) -> u8
-    ensures { λ r. ⌜ r ≡ family kind ⌝ }
+fn is_taken_up(kind: u16) -> bool
+    ensures { λ r. ⌜ r ≡ takenUp kind ⌝ }
 {
     match kind {
-        5 => 5,
-        16 => 16,
-        17 => 16,
-        _ => 0,
+        16 => true,
+        17 => true,
+        _ => false,
     }
 }
 
-fn evidence_of(kind: u16, subtype: u16) -> u8
-    ensures { λ r. ⌜ r ≡ evidence kind subtype ⌝ }
+fn evidence_of(subtype: u16) -> u8
+    ensures { λ r. ⌜ r ≡ evidence subtype ⌝ }
 {
-    if kind == 5 {
-        return 1;
-    }
     if walk_checks::is_state_change(subtype) {
         return 3;
     }

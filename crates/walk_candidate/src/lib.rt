@@ -5,10 +5,6 @@ pub use candidate::candidate_at;
 
 pub enum CandidateAnswer {
     // A record that a scan may take up.
-    Stands {
-        family: u8,
-        evidence: u8,
-        end: usize,
-    },
+    Stands { evidence: u8, end: usize },
     Fails,
 }

@@ -1,17 +1,16 @@
--- The largest bodies that pass the checks of types 5, 16 and 17.
+-- The largest body that passes the check of types 16 and 17.
 use Prim.Native.Nat.{ℕ, zero, suc, _+_, _*_, _≤_}
 use mathlib.Core.Path.{_≡_, refl}
 use mathlib.Core.Bool.{Bool, true, false, _&&_, not, cond, and-eq-true-iff}
 use mathlib.Core.List.{List, [], _∷_, _++_}
 use native.Mathlib.Omega.{arith}
 use lib.ListN.{length, getD, drop, length-drop, replicate}
-use lib.Dec.{eqb, leb, ltb}
+use lib.Dec.{eqb, leb}
 use borrow.Author.Tests.{leb-true, eqb-true}
 use Rattle.octets.specs.Octets.{beAt, ones, Octets}
 use Rattle.octets_address.specs.Address.{addressSize}
 use Rattle.octets_address.proofs.Addresses.{address-le}
 use Rattle.walk_checks.specs.Within.{within}
-use Rattle.walk_checks.specs.Legacy.{legacyBounds, legacy}
 use Rattle.walk_checks.specs.Message.{messageBounds, message}
 use Rattle.walk_checks.specs.declared.Bounds.{Bounds}
 use Rattle.walk_checks.specs.Bgp4mp.{asSizes, asSize, stateChange, tail, envelope, bgp4mp}
@@ -102,29 +101,6 @@ message-high t =
 -- THEOREM. No body of types 16 and 17 that passes has more than 65,579 octets: 44, and a message of 65,535.
 pub bgp4mp-most : (u : ℕ) (b : List ℕ) → bgp4mp u b ≡ 0 → length b ≤ 65579
 bgp4mp-most = body-most 65535 (omega arith) message-high
-
--- a stored length of type 5 that passes is no longer than its subtype may be
-stored-most : (u n : ℕ) → legacy u n ≡ 0 → n ≤ legacyBounds u .high
-unfolding legacy
-stored-most u n = by-tests (ltb (legacyBounds u .high) (legacyBounds u .low)) (within (legacyBounds u) n) refl
-  where
-    by-tests : (t w : Bool) → within (legacyBounds u) n ≡ w → _≡_ {A = ℕ} (cond t 6 (cond w 0 7)) 0 → n ≤ legacyBounds u .high
-    by-tests true w h z = absurd (omega arith)
-    by-tests false false h z = absurd (omega arith)
-    by-tests false true h z = within-most (legacyBounds u) n h
-
--- no subtype of type 5 may be longer
-legacy-high : (u : ℕ) → legacyBounds u .high ≤ 65535
-unfolding legacyBounds
-legacy-high u =
-    either-most (eqb u 1) _ _ (omega arith)
-    (either-most (eqb u 3) _ _ (omega arith)
-    (either-most (eqb u 5) _ _ (omega arith)
-    (either-most (eqb u 6) _ _ (omega arith) (either-most (eqb u 7) _ _ (omega arith) (omega arith)))))
-
--- THEOREM. No body of type 5 that passes has more than 65,535 octets.
-pub legacy-most : (u n : ℕ) → legacy u n ≡ 0 → n ≤ 65535
-legacy-most u n h = let p = stored-most u n h in let q = legacy-high u in omega arith
 
 -- the largest body: subtype 4 with IPv6 addresses and an UPDATE of 65,535 octets
 pub largest : List ℕ

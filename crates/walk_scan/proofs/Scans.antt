@@ -4,16 +4,16 @@ use mathlib.Core.Path.{_≡_, refl, sym}
 use mathlib.Core.Bool.{Bool, true, false}
 use mathlib.Core.List.{List}
 use native.Mathlib.Omega.{arith}
-use lib.ListN.{length, getD}
-use lib.Dec.{leb, ltb, eqb}
-use borrow.Author.Tests.{leb-true, leb-false, ltb-true, ltb-false, eqb-true, eqb-false}
+use lib.ListN.{length}
+use lib.Dec.{leb, ltb}
+use borrow.Author.Tests.{leb-true, leb-false, ltb-true, ltb-false}
 use Rattle.rules.specs.Ask.{over}
 use Rattle.walk.specs.Step.{nowhere, scan}
 use Rattle.walk.specs.Judged.{fails}
 use Rattle.walk.proofs.Turns.{Left, scan-over, scan-past, scan-turned, scan-looks, row-fails}
 use Rattle.walk_candidate.specs.Candidate.{candidateAt}
 use Rattle.walk_scan.specs.Sight.{Passed, Clear}
-use Rattle.walk_candidate.proofs.Candidates.{candidate-near, candidate-high, candidate-low, candidate-huge, candidate-large}
+use Rattle.walk_candidate.proofs.Candidates.{candidate-near}
 
 -- d distances are turned down, and the next one is beyond the window or has no room for a header
 pub scan-reached : (s : List ℕ) (more p window d : ℕ) → d ≤ window → min window (length s - p - 12) ≤ d
@@ -58,23 +58,6 @@ clear-one s at n h q i l = by-last (ltb i n) refl
     by-last : (t : Bool) → ltb i n ≡ t → fails ≡ over s (candidateAt (at + i))
     by-last true t = h i (ltb-true _ _ t)
     by-last false t = let z : n ≡ i = let w : n ≤ i = ltb-false _ _ t in omega arith in rw (← z) q
-
--- an offset whose type or length is no candidate's, by four octets
-pub unmarked : (s : List ℕ) (p : ℕ) → p ≤ length s
-    → (getD s (p + 4) 0 ≡ 0 → 5 ≤ getD s (p + 5) 0 → getD s (p + 8) 0 ≡ 0 → 1 < getD s (p + 9) 0) → fails ≡ over s (candidateAt p)
-unmarked s p l h = by-type (eqb (getD s (p + 4) 0) 0) refl
-  where
-    by-length : getD s (p + 4) 0 ≡ 0 → 5 ≤ getD s (p + 5) 0 → (t : Bool) → eqb (getD s (p + 8) 0) 0 ≡ t → fails ≡ over s (candidateAt p)
-    by-length e m true t = candidate-large s p l (h e m (eqb-true _ _ t))
-    by-length e m false t = candidate-huge s p l (eqb-false _ _ t)
-
-    by-low : getD s (p + 4) 0 ≡ 0 → (t : Bool) → leb 5 (getD s (p + 5) 0) ≡ t → fails ≡ over s (candidateAt p)
-    by-low e true t = by-length e (leb-true _ _ t) (eqb (getD s (p + 8) 0) 0) refl
-    by-low e false t = let m : getD s (p + 5) 0 < 5 = leb-false _ _ t in candidate-low s p l e (λ z. omega arith) (λ x y. omega arith)
-
-    by-type : (t : Bool) → eqb (getD s (p + 4) 0) 0 ≡ t → fails ≡ over s (candidateAt p)
-    by-type true t = by-low (eqb-true _ _ t) (leb 5 (getD s (p + 5) 0)) refl
-    by-type false t = candidate-high s p l (eqb-false _ _ t)
 
 -- distances that are passed over are turned down
 pub left-passed : (s : List ℕ) (more p window from : ℕ) → from ≤ window → Left candidateAt s more p window from

@@ -3,7 +3,7 @@ mod sight;
 
 pub use sight::scan;
 
-// The offset where the asked run of one family stands, with the first one's evidence.
+// The offset where the asked run stands, with the first one's evidence.
 pub enum Found {
     At { offset: usize, evidence: u8 },
     Nowhere,

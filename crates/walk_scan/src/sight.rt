@@ -12,8 +12,8 @@ ghost use Rattle.walk_scan.specs.Sight.{sighted, Passed, Clear};
 use crate::Found;
 use walk_candidate::CandidateAnswer;
 
-// The first distance from p, up to the window, where a candidate stands with `more` of its family straight after it. The first of a
-// chain goes through the same turn as the others: the test then has one caller, which the compiler takes it into.
+// The first distance from p, up to the window, where a candidate stands with `more` straight after it. The first of a chain goes
+// through the same turn as the others: the test then has one caller, which the compiler takes it into.
 pub fn scan(s: &[u8], p: usize, window: usize, more: u8) -> Found
     ensures answer { λ r. ⌜ sighted r ≡ over (now (s .entry)) (scanRule candidateAt more (suc p) window) ⌝ }
 {
@@ -27,24 +27,15 @@ pub fn scan(s: &[u8], p: usize, window: usize, more: u8) -> Found
         }
         d += 1;
         let offset = p + d;
-        let mut family: u8 = 0;
         let mut evidence: u8 = 0;
         let mut i: u8 = 0;
         let mut at = offset;
         loop {
-            let CandidateAnswer::Stands {
-                family: other,
-                evidence: by,
-                end,
-            } = walk_candidate::candidate_at(s, at)
+            let CandidateAnswer::Stands { evidence: by, end } = walk_candidate::candidate_at(s, at)
             else {
                 continue 'distance;
             };
-            family = first(i, other, family);
             evidence = first(i, by, evidence);
-            if other != family {
-                continue 'distance;
-            }
             if more <= i {
                 break 'distance Found::At { offset, evidence };
             }
@@ -158,10 +149,10 @@ fn marked(s: &[u8], at: usize) -> u8
     count
 }
 
-// 1 where the octets of a type and the first two of a length may be a candidate's. Of the type's second one only the least is asked,
-// which octets of zeros have not.
+// 1 where the octets of a type and the first two of a length may be a candidate's. Most offsets fail by the first, and of the
+// others most by the length.
 fn mark(high: u8, low: u8, huge: u8, large: u8) -> u8
-    ensures { λ r. ⌜ (r ≤ 1) × (r ≡ 0 → high ≡ 0 → 5 ≤ low → huge ≡ 0 → 1 < large) ⌝ }
+    ensures { λ r. ⌜ (r ≤ 1) × (r ≡ 0 → high ≡ 0 → 16 ≤ low → low ≤ 17 → huge ≡ 0 → 1 < large) ⌝ }
 {
     if high != 0 {
         return 0;
@@ -172,36 +163,19 @@ fn mark(high: u8, low: u8, huge: u8, large: u8) -> u8
     if 1 < large {
         return 0;
     }
-    if low < 5 {
+    if low < 16 {
+        return 0;
+    }
+    if 17 < low {
         return 0;
     }
     1
 }
 
-// Whether a candidate may begin at an offset. Most fail after one octet: a type of a family is below 256.
+// Whether a candidate may begin at an offset.
 fn may_begin(s: &[u8], at: usize) -> bool
     requires { ⌜ at + 12 ≤ length (now s) ⌝ }
     ensures { λ r. ⌜ (r ≡ false → fails ≡ over (now (s .entry)) (candidateAt at)) ⌝ }
 {
-    if s[at + 4] != 0 {
-        return false;
-    }
-    // Of the others most have a length that no candidate has.
-    if s[at + 8] != 0 {
-        return false;
-    }
-    if 1 < s[at + 9] {
-        return false;
-    }
-    let low = s[at + 5];
-    if low == 5 {
-        return true;
-    }
-    if low < 16 {
-        return false;
-    }
-    if 17 < low {
-        return false;
-    }
-    true
+    mark(s[at + 4], s[at + 5], s[at + 8], s[at + 9]) != 0
 }

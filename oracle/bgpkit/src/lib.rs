@@ -1,4 +1,5 @@
-//! Nine files of bgpkit-parser 0.23.0, unedited, built with stand-ins for what they need. `build.rs` finds them.
+//! Nine files of bgpkit-parser 0.23.0, one of them with one guard replaced, built with stand-ins for what they need.
+//! `build.rs` finds them.
 
 /// Declares one of the crate's own files as a module here.
 macro_rules! own_file {

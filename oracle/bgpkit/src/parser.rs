@@ -1,5 +1,6 @@
 //! Glue where the crate's parser modules stand, with 01's two replacements: the body parsers that a full record
-//! parse calls are body checks, and the Zebra short form is never seen.
+//! parse calls are body checks, and the Zebra short form is never seen. The third, by 02, wish 14, is made in
+//! `recovery.rs` itself (`build.rs`): its scan takes no type 5.
 
 use crate::body_check;
 use crate::error::ParserError as Error;
@@ -21,8 +22,8 @@ thread_local! {
     static OWN_PARSERS: Cell<bool> = const { Cell::new(false) };
 }
 
-/// Runs `work` without 01's replacements where the crate's own parser is at hand: types 16 and 17, and of type 13 the
-/// peer table and the RIB records. BGP messages and attributes are still kept as octets.
+/// Runs `work` without the replacements where the crate's own parser is at hand: types 16 and 17, and of type 13 the
+/// peer table and the RIB records; its scan takes type 5. BGP messages and attributes are still kept as octets.
 pub fn with_own_parsers<T>(work: impl FnOnce() -> T) -> T {
     OWN_PARSERS.set(true);
     let result = work();

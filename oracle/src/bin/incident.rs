@@ -1,8 +1,9 @@
 //! The incident, told with a file small enough to read: why one confirming record is not enough.
 //!
-//! A file is torn where a record began. An announcement in the torn record carries two communities, 5:1 and 0:300,
-//! whose eight octets look like the type, subtype and length of an old type 5 record. Nothing in such a record's body
-//! is looked at, so one record is enough to stand as a candidate.
+//! A file is torn where a record began. An announcement in the torn record carries five communities whose octets read
+//! as a header of type 16, subtype 0, length 20 and the first half of a state change. Of such a record the type, the
+//! subtype, the length and the address family are held to something; all else may be any octets, here the announced
+//! prefix and the next record's first eight.
 
 use mrt_oracle::answers::Event;
 use mrt_oracle::make;
@@ -32,14 +33,12 @@ fn update(third: u8, communities: &[[u16; 2]]) -> Vec<u8> {
     make::record(16, 4, &body)
 }
 
-/// Nine records, the third with the two communities.
+/// As a state change: the timestamp, type 16 and subtype 0, length 20, two AS numbers, interface and address family 1.
+const COMMUNITIES: [[u16; 2]; 5] = [[64_500, 100], [16, 0], [0, 20], [0, 64_501], [64_500, 1]];
+
+/// Nine records, the third with all the communities.
 fn whole_file() -> Vec<Vec<u8>> {
-    (1..=9u8)
-        .map(|number| match number {
-            3 => update(number, &[[64_500, 100], [5, 1], [0, 300]]),
-            _ => update(number, &[[64_500, 100]]),
-        })
-        .collect()
+    (1..=9u8).map(|number| update(number, &COMMUNITIES[..if number == 3 { 5 } else { 1 }])).collect()
 }
 
 /// The torn file, and where each of its records, or what is left of it, stands.
@@ -108,13 +107,13 @@ fn main() {
     for (index, place) in places.iter().enumerate() {
         println!("  record {} stands at {}..{}", index + 1, place.start, place.end);
     }
-    let torn = &places[2];
-    let communities = stream[torn.clone()].windows(8).position(|octets| octets == [0, 5, 0, 1, 0, 0, 1, 44]);
-    if let Some(at) = communities.map(|at| torn.start + at) {
-        println!("In what is left of record 3, octets {at}..{} are communities 5:1 and 0:300:", at + 8);
-        println!("  {}", hex(&stream[at - 4..at + 8]));
-        println!("  read from {} on they are a header of type 5, subtype 1, length 300.", at - 4);
-    }
+    // an announced prefix of four octets stands after the communities and ends the record
+    let at = places[2].end - 4 - 4 * COMMUNITIES.len();
+    let names: Vec<String> = COMMUNITIES.iter().map(|[high, low]| format!("{high}:{low}")).collect();
+    println!("Octets {at}..{} are record 3's communities, its prefix, and the first eight of record 4:", at + 32);
+    println!("  {}, 10.0.3.0/24", names.join(", "));
+    println!("  {}", hex(&stream[at..at + 32]));
+    println!("  They read as a state change: type 16, subtype 0, length 20, peer AS 0, address family 1.");
     tell(&stream, &places, 1);
     tell(&stream, &places, 3);
 }

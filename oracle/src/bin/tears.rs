@@ -1,5 +1,5 @@
 //! Tears each real file at random places and counts what a walk then hands out that nobody wrote: octets cut out, and a
-//! block zeroed. `tears [--places N] [--seed S]`; a line for each file of MRT_STREAMS.
+//! block zeroed. `tears [--places N] [--seed S] [--asked K]`; a line for each file of MRT_STREAMS.
 
 use mrt_oracle::campaigns::real;
 #[cfg(proved)]
@@ -8,7 +8,7 @@ use mrt_oracle::random::Random;
 #[cfg(not(proved))]
 use mrt_oracle::subject::Reading;
 use mrt_oracle::subject::Subject;
-use mrt_oracle::tears::{cut_out, zeroed, Tally, Written};
+use mrt_oracle::tears::{cut_out, zeroed, Tally, Written, ASKED};
 use std::process::ExitCode;
 
 #[cfg(proved)]
@@ -26,16 +26,18 @@ type Tear = fn(&[u8], usize, usize) -> Vec<u8>;
 struct Settings {
     places: usize,
     seed: u64,
+    asked: u8,
 }
 
 fn settings() -> Option<Settings> {
-    let mut settings = Settings { places: 1_000, seed: 1 };
+    let mut settings = Settings { places: 1_000, seed: 1, asked: ASKED };
     let mut words = std::env::args().skip(1);
     while let Some(word) = words.next() {
         let number = words.next()?;
         match word.as_str() {
             "--places" => settings.places = number.parse().ok()?,
             "--seed" => settings.seed = number.parse().ok()?,
+            "--asked" => settings.asked = number.parse().ok()?,
             _ => return None,
         }
     }
@@ -48,7 +50,7 @@ fn torn(settings: &Settings, file: &[u8], written: &Written, tear: Tear, count: 
     let mut tally = Tally::default();
     for _ in 0..settings.places {
         let at = random.below(file.len() - count + 1);
-        tally.add(SUBJECT, written, &tear(file, at, count));
+        tally.add(SUBJECT, written, &tear(file, at, count), settings.asked);
     }
     tally
 }
@@ -63,7 +65,7 @@ fn cells(tally: &Tally) -> String {
 
 fn main() -> ExitCode {
     let Some(settings) = settings() else {
-        eprintln!("usage: tears [--places N] [--seed S]");
+        eprintln!("usage: tears [--places N] [--seed S] [--asked K]");
         return ExitCode::from(2);
     };
     let files = match real::files(&real::folder()) {
@@ -73,7 +75,8 @@ fn main() -> ExitCode {
             return ExitCode::FAILURE;
         }
     };
-    println!("seed {}, {} places in each file, answers: {}", settings.seed, settings.places, SUBJECT.name());
+    let Settings { places, seed, asked } = settings;
+    println!("seed {seed}, {places} places in each file, {asked} confirming record(s), answers: {}", SUBJECT.name());
     println!("| file | {CUT} octets cut out: {COLUMNS} | {BLOCK} zeroed: {COLUMNS} |");
     println!("|---|---|---|---|---|---|---|---|---|---|---|---|---|");
     let (long, short): (Vec<_>, Vec<_>) = files.iter().partition(|(_, file)| file.len() >= SHORTEST);

@@ -24,15 +24,17 @@ fn walk(put: Put, stream: &[u8]) {
     put(&Question::Causes { stream, window: 1 << 20, asked: 1 });
 }
 
-/// One record fewer than asked for, as many, and one more, of one family and with another's in between.
+/// One record fewer than asked for, as many, and one more: of the types that a scan takes, and with type 5 after and
+/// before them, which it passes over and a record's own end does not.
 fn long_rows(put: Put) {
     let state = make::record(16, 0, &make::state_change_body(0, 1));
     let timed = make::record(17, 1, &make::message_body(1, 2, 4, 19));
     let legacy = make::record(5, 3, &[0; 10]);
     for count in [253, 254, 255, 256, 510] {
-        let one_family = [state.repeat(count - 1), timed.clone()].concat();
-        let two_families = [state.repeat(count / 2), legacy.repeat(count - count / 2)].concat();
-        for rows in [one_family, two_families] {
+        let taken = [state.repeat(count - 1), timed.clone()].concat();
+        let broken = [state.repeat(count / 2), legacy.repeat(count - count / 2)].concat();
+        let passed_over = [&legacy[..], &taken].concat();
+        for rows in [taken, broken, passed_over] {
             for before in [vec![0; 3], make::header(0, 32, 0, 0), make::header(0, 14, 0, 0)] {
                 let stream = [&before[..], &rows].concat();
                 for asked in [253, 254, 255] {
@@ -44,7 +46,7 @@ fn long_rows(put: Put) {
     }
 }
 
-/// The record after a tear is as long as a candidate may be, and one octet longer.
+/// The record after a tear is as long as a candidate may be, and one octet longer. One of type 5 is none at any length.
 fn long_candidates(put: Put) {
     let mut records = vec![
         make::record(16, 4, &make::message_body(4, 2, 2, 65_535)),

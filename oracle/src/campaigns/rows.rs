@@ -56,8 +56,8 @@ fn timed_rows(kind: u16) -> [Row; 3] {
     ]
 }
 
-/// Differences that show only while the crate's own parsers are in place of 01's body check.
-fn own_parser_rows() -> [Row; 6] {
+/// Differences that show only while the crate's own parsers are in place of 01's body check, and its own scan of 02's.
+fn own_parser_rows() -> [Row; 7] {
     let refused = make::header(0, 32, 0, 0);
     let in_envelope = [make::header(0, 16, 0, 9), vec![0, 1, 0, 2, 0, 0, 0, 1, 10]].concat();
     let in_table = make::record(13, 1, &make::peer_table(&[], 1, &[0; 6]));
@@ -72,6 +72,7 @@ fn own_parser_rows() -> [Row; 6] {
         own_row("own_parser_knows_the_short_state_change", &make::record(16, 0, &[0, 1, 0, 2, 0, 1, 0, 2])),
         own_row("own_parser_knows_the_short_open", &make::record(16, 1, &short_open)),
         own_row("own_check_of_the_scan_has_no_least_open", &[vec![0], least_message.repeat(3)].concat()),
+        own_row("own_scan_takes_up_on_type_5", &[vec![0], make::record(5, 1, &[0; 16]).repeat(3)].concat()),
     ]
 }
 

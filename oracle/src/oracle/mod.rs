@@ -18,7 +18,7 @@ pub use words::{number as number_of_words, TOO_LARGE, UNKNOWN_WORDS};
 
 pub use bgpkit_part::parser::with_own_parsers;
 
-/// The crate, with 01's two replacements.
+/// The crate, with 01's two replacements and 02's one.
 pub struct Oracle;
 
 impl Subject for Oracle {

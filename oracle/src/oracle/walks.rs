@@ -74,6 +74,7 @@ impl Iterator for CrateWalk<'_> {
     }
 }
 
+/// 1 is reserved. What follows tells it like 2 and 3, so that a crate whose scan takes type 5 shows.
 pub fn evidence_number(evidence: RecoveryEvidence) -> u8 {
     match evidence {
         RecoveryEvidence::LegacyMrtChain => 1,
@@ -119,9 +120,8 @@ pub fn candidate(stream: &[u8], at: usize) -> Option<Candidate> {
     torn[timestamp].fill(255);
     let mut walk = CrateWalk::new(&torn, 0, 12, 1);
     match (walk.next()?.0, walk.next()) {
-        (Event::Gap { end: 12, evidence: evidence @ 1..=3, .. }, Some((Event::Record { end, kind, .. }, _))) => {
-            let family = if kind == 5 { 5 } else { 16 };
-            Some(Candidate { stands: true, family, evidence, end: at + end - 12 })
+        (Event::Gap { end: 12, evidence: evidence @ 1..=3, .. }, Some((Event::Record { end, .. }, _))) => {
+            Some(Candidate { stands: true, evidence, end: at + end - 12 })
         }
         _ => Some(Candidate::default()),
     }

@@ -24,7 +24,7 @@ pub fn body_check(kind: u16, subtype: u16, stored: u32, body: &[u8]) -> u8 {
 
 /// Type 5: the length alone decides. Nothing where the subtype is not carried.
 #[inline]
-pub fn legacy(subtype: u16, length: usize) -> Option<bool> {
+fn legacy(subtype: u16, length: usize) -> Option<bool> {
     let (low, high) = match subtype {
         1 => (16, 65_535),
         3 => (10, 10),

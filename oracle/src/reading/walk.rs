@@ -11,10 +11,8 @@ const SECOND: u32 = 1_000_000;
 /// The octets before a record's body, at the least.
 const COMMON: usize = 12;
 
-const LEGACY: u16 = 5;
-const BGP4MP: u16 = 16;
-const BGP4MP_ET: u16 = 17;
-
+const MARKER: u8 = 2;
+const STATE_CHANGE: u8 = 3;
 const OWN_END: u8 = 4;
 const STREAM_END: u8 = 5;
 
@@ -64,29 +62,16 @@ fn standing(stream: &[u8], at: usize) -> Option<Candidate> {
     if check::body_check(header.kind, header.subtype, header.stored, body) != 0 {
         return None;
     }
-    let family = if header.kind == LEGACY { LEGACY } else { BGP4MP };
-    Some(Candidate { stands: true, family, evidence: evidence(&header), end: frame.end })
+    let evidence = if check::is_state_change(header.subtype) { STATE_CHANGE } else { MARKER };
+    Some(Candidate { stands: true, evidence, end: frame.end })
 }
 
+/// Type 16 has no microseconds, so they are 0.
 fn is_plausible(header: &Header) -> bool {
-    let carried = match header.kind {
-        LEGACY => check::legacy(header.subtype, header.stored as usize) == Some(true),
-        BGP4MP => check::as_width(header.subtype).is_some(),
-        BGP4MP_ET => check::as_width(header.subtype).is_some() && header.micros < SECOND,
-        _ => false,
-    };
-    carried && header.stored <= MOST_STORED
-}
-
-/// 1 legacy, 2 marker, 3 state change.
-fn evidence(header: &Header) -> u8 {
-    if header.kind == LEGACY {
-        1
-    } else if check::is_state_change(header.subtype) {
-        3
-    } else {
-        2
-    }
+    matches!(header.kind, 16 | 17)
+        && check::as_width(header.subtype).is_some()
+        && header.stored <= MOST_STORED
+        && header.micros < SECOND
 }
 
 /// 0 counts as 1.
@@ -110,16 +95,12 @@ pub fn aligned(stream: &[u8], from: usize, asked: u8) -> Tried {
     Tried { passed: true, confirmed: asked }
 }
 
-/// The evidence of the first of `asked` candidates of one family in a row from an offset on.
+/// The evidence of the first of `asked` candidates in a row from an offset on.
 fn row(stream: &[u8], at: usize, asked: u8) -> Option<u8> {
     let first = standing(stream, at)?;
     let mut end = first.end;
     for _ in 1..asked {
-        let next = standing(stream, end)?;
-        if next.family != first.family {
-            return None;
-        }
-        end = next.end;
+        end = standing(stream, end)?.end;
     }
     Some(first.evidence)
 }
@@ -134,7 +115,7 @@ pub fn scan(stream: &[u8], from: usize, window: usize, asked: u8) -> Found {
     // The type stands 4 octets after an offset. Two octets tell nearly every offset apart from a candidate's.
     let types = &stream[from + 5..from + 6 + distances];
     for (before, pair) in types.windows(2).enumerate() {
-        if !(matches!(pair[1], 5 | 16 | 17) && pair[0] == 0) {
+        if !(matches!(pair[1], 16 | 17) && pair[0] == 0) {
             continue;
         }
         let offset = from + 1 + before;

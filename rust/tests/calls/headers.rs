@@ -1,7 +1,7 @@
 //! Headers, frames, judged records, and candidates.
 
 use crate::{Random, keepalive, message, record, state_change};
-use mrt::{Candidate, Evidence, Family, Frame, Header, NewHeader, Record, Refusal, StoredLength, check_body};
+use mrt::{Candidate, Evidence, Frame, Header, NewHeader, Record, Refusal, StoredLength, check_body};
 
 /// The types whose header has microseconds.
 const TIMED: [u16; 3] = [17, 33, 49];
@@ -114,11 +114,20 @@ fn a_written_header_is_read_back_and_touches_nothing_else() {
 fn a_candidate_has_microseconds_below_a_million_and_a_record_any() {
     let (under, over) = (keepalive(999_999, 19), keepalive(1_000_000, 19));
     let candidate = Candidate::read(&under, 0).unwrap().unwrap();
-    assert_eq!((candidate.family, candidate.evidence, candidate.end), (Family::Bgp4mp, Evidence::Marker, under.len()));
+    assert_eq!((candidate.evidence, candidate.end), (Evidence::Marker, under.len()));
     assert_eq!(Candidate::read(&over, 0), Ok(None));
     assert!(Record::read(&under, 0).is_ok() && Record::read(&over, 0).is_ok());
     assert_eq!(Candidate::read(&state_change(), 0).unwrap().unwrap().evidence, Evidence::StateChange);
-    assert_eq!(Candidate::read(&record(13, 1, &[0; 8]), 0), Ok(None));
+}
+
+#[test]
+fn records_of_types_5_12_and_13_pass_and_are_no_candidates() {
+    let legacy = [(5, 1, 16), (5, 3, 10), (5, 5, 22), (5, 6, 14), (5, 7, 12)];
+    for (kind, subtype, length) in legacy.into_iter().chain([(12, 1, 22), (13, 1, 8), (13, 2, 7)]) {
+        let stream = record(kind, subtype, &vec![0; length]);
+        assert!(Record::read(&stream, 0).is_ok());
+        assert_eq!(Candidate::read(&stream, 0), Ok(None), "{kind}/{subtype}");
+    }
 }
 
 #[test]

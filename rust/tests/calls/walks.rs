@@ -71,17 +71,41 @@ fn the_position_is_where_the_next_item_starts() {
 }
 
 #[test]
-fn a_scan_asks_for_a_chain_of_one_family() {
-    let damage = vec![255; 20];
-    let two = [damage.clone(), state_change(), state_change()].concat();
+fn a_scan_asks_for_a_chain() {
+    let two = [vec![255; 20], state_change(), state_change()].concat();
     assert_eq!(gaps(&two, options(100, 3)), [(0, 84, 2, 5, 0)]);
     assert_eq!(gaps(&two, options(100, 2)), [(0, 20, 2, 3, 2)]);
     assert_eq!(gaps(&two, options(100, 0)), [(0, 20, 2, 3, 1)]);
-    let legacy = record(5, 7, &[0; 12]);
-    let mixed = [damage.clone(), legacy.clone(), keepalive(0, 19), keepalive(0, 19)].concat();
-    assert_eq!(gaps(&mixed, options(100, 2)), [(0, 44, 2, 2, 2)]);
-    let legacies = [damage, legacy.clone(), legacy].concat();
-    assert_eq!(gaps(&legacies, options(100, 2)), [(0, 20, 2, 1, 2)]);
+    let mixed = [vec![255; 20], keepalive(0, 19), state_change()].concat();
+    assert_eq!(gaps(&mixed, options(100, 2)), [(0, 20, 2, 2, 2)]);
+}
+
+fn legacy() -> Vec<u8> {
+    record(5, 7, &[0; 12])
+}
+
+#[test]
+fn a_scan_passes_over_type_5_records() {
+    let lost = [vec![255; 20], legacy().repeat(3)].concat();
+    assert_eq!(gaps(&lost, options(200, 1)), [(0, 92, 2, 5, 0)]);
+    let exhausted = Walk::with_options(&lost, options(50, 1)).next().unwrap().unwrap_err();
+    assert_eq!((exhausted.start, exhausted.refusal), (0, Refusal::UnknownType));
+    let found = [lost, keepalive(0, 19), keepalive(0, 19)].concat();
+    assert_eq!(gaps(&found, options(200, 2)), [(0, 92, 2, 2, 2)]);
+}
+
+#[test]
+fn a_type_5_record_breaks_a_chain() {
+    let broken = [vec![255; 20], state_change(), legacy(), state_change(), state_change()].concat();
+    assert_eq!(gaps(&broken, options(200, 2)), [(0, 76, 2, 3, 2)]);
+    assert_eq!(gaps(&broken, options(200, 1)), [(0, 20, 2, 3, 1)]);
+}
+
+#[test]
+fn type_5_records_are_walked_and_confirm_an_own_end() {
+    assert_eq!(gaps(&legacy().repeat(3), options(200, 2)), []);
+    let refused = [record(13, 1, &[0; 7]), legacy().repeat(3)].concat();
+    assert_eq!(gaps(&refused, options(200, 2)), [(0, 19, 7, 4, 2)]);
 }
 
 #[test]

@@ -26,14 +26,11 @@ slice-aggregate-hand-out c = search needs
 hand-out-requires : tie.Need-hand-out-requires
 hand-out-requires c κs = search needs
 
-enum-known-family : tie.Need-enum-known-family
-enum-known-family c = search needs
+enum-known-evidence : tie.Need-enum-known-evidence
+enum-known-evidence c = search needs
 
-cast-t18 : tie.Need-cast-t18
-cast-t18 c = search needs
-
-cast-t19 : tie.Need-cast-t19
-cast-t19 c = search needs
+cast-t17 : tie.Need-cast-t17
+cast-t17 c = search needs
 
 slice-aggregate-hand-out-2 : tie.Need-slice-aggregate-hand-out-2
 slice-aggregate-hand-out-2 c = search needs
@@ -59,11 +56,11 @@ same-length-2 c = search needs
 returns-3 : tie.Need-returns-3
 returns-3 c =
     let at-hand-out2 = c .before .before in
-    let at-family = at-hand-out2 .before .before .before .before in
-    let at-candidate-at = at-family .before .before in
+    let at-evidence = at-hand-out2 .before .before .before .before in
+    let at-candidate-at = at-evidence .before .before in
     candidate-within _ _ _ (at-candidate-at .before .if1 .left)
     (hands candidacy (λ (h : Candidate). 0) candidateValues _ (at-hand-out2 .hand-out2 .ensures)
-    (at-family .family .given .1) (at-candidate-at .candidate-at .ensures) refl refl)
+    (at-evidence .evidence .given .1) (at-candidate-at .candidate-at .ensures) refl refl)
 
 pub mrt-candidate-spec : {M : Type 1} → statement M
 mrt-candidate-spec =
@@ -75,9 +72,8 @@ mrt-candidate-spec =
     enum-told
     slice-aggregate-hand-out
     hand-out-requires
-    enum-known-family
-    cast-t18
-    cast-t19
+    enum-known-evidence
+    cast-t17
     slice-aggregate-hand-out-2
     hand-out-requires-2
     same-length

@@ -55,6 +55,7 @@ fn bodies(put: Put) {
     }
 }
 
+/// Of type 5 no candidate stands, whole or not.
 fn legacy(put: Put) {
     let bounds = [(1, 16), (1, 65_535), (3, 10), (5, 22), (5, 4_089), (6, 14), (6, 65_535), (7, 12)];
     for (subtype, bound) in bounds {

@@ -6,7 +6,7 @@ use crate::make;
 use crate::question::Question;
 
 pub fn run(put: Put) {
-    for stream in streams() {
+    for stream in [streams(), with_type_5()].concat() {
         for window in WINDOWS {
             for asked in ASKED {
                 put(&Question::Walk { stream: &stream, window, asked });
@@ -26,7 +26,6 @@ fn streams() -> Vec<Vec<u8>> {
     let state = make::record(16, 0, &make::state_change_body(0, 1));
     let message = make::timed_record(17, 1, 999_999, &make::message_body(1, 1, 4, 19));
     let late = make::timed_record(17, 1, 1_000_000, &make::message_body(1, 1, 4, 19));
-    let legacy = make::record(5, 3, &[0; 10]);
     let table = make::record(13, 1, &[0; 8]);
     let broken = make::record(13, 1, &[0; 7]);
     let torn = vec![0; 5];
@@ -42,8 +41,6 @@ fn streams() -> Vec<Vec<u8>> {
         [&state[..], &broken, &state].concat(),
         [&broken[..], &state, &table].concat(),
         [&torn[..], &state, &message, &state].concat(),
-        [&torn[..], &message, &state, &legacy].concat(),
-        [&torn[..], &legacy, &legacy].concat(),
         [&torn[..], &table, &state].concat(),
         [&broken[..], &torn, &late, &message].concat(),
         [&state[..], &make::header(0, 16, 0, 40), &[0; 3]].concat(),
@@ -60,6 +57,26 @@ fn streams() -> Vec<Vec<u8>> {
         [&state[..], &make::header(0, 49, 0, 0), &state].concat(),
         [&state[..], &make::header(0, 33, 0, 4), &[0; 3]].concat(),
         [&state[..], &make::header(0, 49, 0, u32::MAX)].concat(),
+    ]
+}
+
+/// Type 5 is walked and confirms at a record's own end. A scan passes over it, and it breaks a row of candidates.
+fn with_type_5() -> Vec<Vec<u8>> {
+    let state = make::record(16, 0, &make::state_change_body(0, 1));
+    let message = make::timed_record(17, 1, 999_999, &make::message_body(1, 1, 4, 19));
+    let legacy = make::record(5, 3, &[0; 10]);
+    let broken = make::record(13, 1, &[0; 7]);
+    let torn = vec![0; 5];
+    vec![
+        make::LEGACY.iter().flat_map(|&(subtype, length)| make::record(5, subtype, &vec![0; length])).collect(),
+        [torn.clone(), legacy.repeat(3)].concat(),
+        [&torn[..], &legacy, &legacy, &state, &message, &state].concat(),
+        [&torn[..], &legacy, &message, &state].concat(),
+        [&torn[..], &message, &state, &legacy].concat(),
+        [&torn[..], &state, &legacy, &message, &state].concat(),
+        [broken.clone(), legacy.repeat(3)].concat(),
+        [&make::header(0, 32, 0, 0)[..], &legacy, &state, &legacy].concat(),
+        [broken, torn, legacy.repeat(3)].concat(),
     ]
 }
 

@@ -61,9 +61,6 @@ enum-told-2 c = search needs
 enum-told-3 : tie.Need-enum-told-3
 enum-told-3 c = search needs
 
-family-of-requires : tie.Need-family-of-requires
-family-of-requires c κs = search needs
-
 evidence-of-requires : tie.Need-evidence-of-requires
 evidence-of-requires c κs = search needs
 
@@ -76,12 +73,12 @@ returns-2 c =
 
 returns-3 : tie.Need-returns-3
 returns-3 c =
-    let at-told = c .before .before in
+    let at-told = c .before in
     let at-check = at-told .before .before in
     standing-fit
     (judged-fit _ _ _ (was-framed (at-check .before .before .before)) refl
     (sym (ap outcomeNumber (at-told .enum-told3 .given .1)) ∙ at-check .check-body .ensures) refl)
-    (c .before .family-of .ensures) (c .evidence-of .ensures)
+    (c .evidence-of .ensures)
 
 pub take-up-spec : {M : Type 1} → statement M
 take-up-spec =
@@ -97,7 +94,6 @@ take-up-spec =
     check-body-requires
     enum-told-2
     enum-told-3
-    family-of-requires
     evidence-of-requires
     returns-2
     returns-3)

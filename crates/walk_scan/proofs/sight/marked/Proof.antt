@@ -2,7 +2,8 @@ use Prim.Native.Nat.{_≤_, _-_}
 use mathlib.Core.Path.{_≡_}
 use native.Mathlib.Omega.{arith}
 use Rattle.walk_scan.specs.Sight.{Clear}
-use Rattle.walk_scan.proofs.Scans.{clear-none, clear-one, unmarked}
+use Rattle.walk_candidate.proofs.Candidates.{candidate-unmarked}
+use Rattle.walk_scan.proofs.Scans.{clear-none, clear-one}
 use borrow.Author.Needs.{needs}
 use Rattle.walk_scan.proofs.sight.marked.Statement.{statement}
 use Rattle.walk_scan.proofs.sight.marked.Tie as tie
@@ -61,7 +62,7 @@ loop-again c = (
   omega arith,
   λ e.
       clear-one _ _ _ (c .before .before .before .before .before .before .loop .inv .2 (omega arith))
-      (unmarked _ _ (omega arith) (c .mark .ensures .1 (omega arith))),
+      (candidate-unmarked _ _ (omega arith) (c .mark .ensures .1 (omega arith))),
 )
 
 returns : tie.Need-returns Inv-loop μ-loop

@@ -4,18 +4,18 @@ use native.Mathlib.Omega.{arith}
 use lib.ListN.{length}
 use borrow.Author.Needs.{needs}
 use Rattle.walk.proofs.Turns.{Left, Looks, scan-starts, scan-looks, scan-turned, scan-left}
-use Rattle.walk.proofs.Turns.{Stood, row-starts, row-ends, row-other, row-turned, row-whole, row-longer}
+use Rattle.walk.proofs.Turns.{Stood, row-starts, row-ends, row-turned, row-whole}
 use Rattle.walk_candidate.specs.Candidate.{candidateAt, candidacy}
 use Rattle.walk_scan.proofs.Scans.{scan-reached, left-over}
 use Rattle.walk_scan.proofs.sight.scan.Statement.{statement}
 use Rattle.walk_scan.proofs.sight.scan.Tie as tie
 
 abbrev Inv-loop : tie.InvT-loop
-Inv-loop s p window more n last d offset family₀ evidence₀ i₀ at₀ family evidence i at =
-    (i ≤ more) × Stood candidateAt s more offset i family evidence at
+Inv-loop s p window more n last d offset evidence₀ i₀ at₀ evidence i at =
+    (i ≤ more) × Stood candidateAt s more offset i evidence at
 
 abbrev μ-loop : tie.MeasureT-loop
-μ-loop s p window more n last d offset family₀ evidence₀ i₀ at₀ family evidence i at = more - i
+μ-loop s p window more n last d offset evidence₀ i₀ at₀ evidence i at = more - i
 
 abbrev Inv-distance : tie.InvT-distance
 Inv-distance s p window more n last d₀ d = (d ≤ last) × (last ≡ min window (length s - p - 12)) × Left candidateAt s more p window d
@@ -46,13 +46,13 @@ add-offset : tie.Need-add-offset Inv-loop μ-loop Inv-distance μ-distance
 add-offset c = omega arith
 
 loop-holds : tie.Need-loop-holds Inv-loop μ-loop Inv-distance μ-distance
-loop-holds c = (omega arith, row-starts candidateAt _ _ _ _ _)
+loop-holds c = (omega arith, row-starts candidateAt _ _ _ _)
 
 candidate-at-requires : tie.Need-candidate-at-requires Inv-loop μ-loop Inv-distance μ-distance
 candidate-at-requires c κs = search needs
 
-enum-known-other : tie.Need-enum-known-other Inv-loop μ-loop Inv-distance μ-distance
-enum-known-other c = search needs
+enum-known-by : tie.Need-enum-known-by Inv-loop μ-loop Inv-distance μ-distance
+enum-known-by c = search needs
 
 enum-told : tie.Need-enum-told Inv-loop μ-loop Inv-distance μ-distance
 enum-told c = search needs
@@ -84,35 +84,12 @@ distance-again c =
       omega (arith, at-if1 .if1 .left),
       at-if1 .before .before .distance .inv .1,
       scan-turned candidateAt _ _ _ _ _ _ refl (looks at-if1)
-          (sym (row-ends candidateAt _ _ _ _ _ _ _ (at-loop .loop .inv .0) (at-loop .loop .inv .1)
+          (sym (row-ends candidateAt _ _ _ _ _ _ (at-loop .loop .inv .0) (at-loop .loop .inv .1)
           (sym (c .before .before .candidate-at .ensures) ∙ ap candidacy (c .enum-told .given .1)))),
     )
 
 first-requires : tie.Need-first-requires Inv-loop μ-loop Inv-distance μ-distance
 first-requires c κs = search needs
-
-first-requires-2 : tie.Need-first-requires-2 Inv-loop μ-loop Inv-distance μ-distance
-first-requires-2 c κs = search needs
-
-distance-less-2 : tie.Need-distance-less-2 Inv-loop μ-loop Inv-distance μ-distance
-distance-less-2 c =
-    let at-if1 = c .before .before .before .before .before .before .before .before in
-    omega (arith, at-if1 .before .pass-over .ensures .0, at-if1 .if1 .left)
-
-distance-again-2 : tie.Need-distance-again-2 Inv-loop μ-loop Inv-distance μ-distance
-distance-again-2 c =
-    let at-first = c .before .before in
-    let at-other = at-first .before .before in
-    let at-candidate = at-other .before .before in
-    let at-loop = at-candidate .before in
-    let at-if1 = at-loop .before in (
-      omega (arith, at-if1 .if1 .left),
-      at-if1 .before .before .distance .inv .1,
-      scan-turned candidateAt _ _ _ _ _ _ refl (looks at-if1)
-          (sym (row-other candidateAt _ _ _ _ _ _ _ (at-loop .loop .inv .0) (at-loop .loop .inv .1)
-          (sym (at-candidate .candidate-at .ensures) ∙ ap candidacy (at-other .other .given .1))
-          (at-first .first .ensures) (c .if2 .taken))),
-    )
 
 add-i : tie.Need-add-i Inv-loop μ-loop Inv-distance μ-distance
 add-i c = omega arith
@@ -122,28 +99,25 @@ loop-less c = omega arith
 
 loop-again : tie.Need-loop-again Inv-loop μ-loop Inv-distance μ-distance
 loop-again c =
-    let at-first = c .before .before .before in
-    let at-other = at-first .before .before in
-    let at-candidate = at-other .before .before in
+    let at-first = c .before in
+    let at-by = at-first .before .before in
+    let at-candidate = at-by .before .before in
     let at-loop = at-candidate .before in (
       omega arith,
-      row-longer candidateAt _ _ _ _ _ _ _
-          (row-turned candidateAt _ _ _ _ _ _ _ (at-loop .loop .inv .0) (at-loop .loop .inv .1)
-          (sym (at-candidate .candidate-at .ensures) ∙ ap candidacy (at-other .other .given .1))
-          (at-first .first .ensures) (c .before .before .first2 .ensures) (c .before .if2 .left)),
+      row-turned candidateAt _ _ _ _ _ _ (at-loop .loop .inv .0) (at-loop .loop .inv .1)
+          (sym (at-candidate .candidate-at .ensures) ∙ ap candidacy (at-by .by .given .1)) (at-first .first .ensures),
     )
 
 returns-2 : tie.Need-returns-2 Inv-loop μ-loop Inv-distance μ-distance
 returns-2 c =
-    let at-first = c .before .before .before in
-    let at-other = at-first .before .before in
-    let at-candidate = at-other .before .before in
+    let at-first = c .before in
+    let at-by = at-first .before .before in
+    let at-candidate = at-by .before .before in
     let at-loop = at-candidate .before in
     scan-left candidateAt _ _ _ _ _ _ (looks (at-loop .before))
-    (sym (row-whole candidateAt _ _ _ _ _ _ _ (c .if3 .taken)
-    (row-turned candidateAt _ _ _ _ _ _ _ (at-loop .loop .inv .0) (at-loop .loop .inv .1)
-    (sym (at-candidate .candidate-at .ensures) ∙ ap candidacy (at-other .other .given .1))
-    (at-first .first .ensures) (c .before .before .first2 .ensures) (c .before .if2 .left))))
+    (sym (row-whole candidateAt _ _ _ _ _ _ (c .if2 .taken)
+    (row-turned candidateAt _ _ _ _ _ _ (at-loop .loop .inv .0) (at-loop .loop .inv .1)
+    (sym (at-candidate .candidate-at .ensures) ∙ ap candidacy (at-by .by .given .1)) (at-first .first .ensures))))
 
 pub scan-spec : {M : Type 1} → statement M
 scan-spec =
@@ -161,14 +135,11 @@ scan-spec =
     add-offset
     loop-holds
     candidate-at-requires
-    enum-known-other
+    enum-known-by
     enum-told
     distance-less
     distance-again
     first-requires
-    first-requires-2
-    distance-less-2
-    distance-again-2
     add-i
     loop-less
     loop-again
