@@ -50,11 +50,10 @@ fn take_up(s: &[u8], at: usize, header: CommonHeader, wire: WireLength) -> Candi
 fn is_plausible(h: CommonHeader) -> bool
     ensures { λ r. ⌜ r ≡ plausible (h .kind) (h .subtype) (h .length .0) (h .micros) ⌝ }
 {
-    let length = h.length;
     if !is_taken_up(h.kind) {
         return false;
     }
-    if 65599 < length.0 {
+    if 65599 < h.length.0 {
         return false;
     }
     if 1000000 <= h.micros {
