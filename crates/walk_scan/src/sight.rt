@@ -1,6 +1,6 @@
 // The scan for a place to take up again.
 ghost use mathlib.Core.Path.{_≡_};
-ghost use mathlib.Core.Bool.{false, cond};
+ghost use mathlib.Core.Bool.{cond};
 ghost use lib.Dec.{eqb};
 ghost use Prim.Native.Nat.{suc, _+_, _-_, _<_, _≤_, min};
 ghost use lib.ListN.{length};
@@ -110,7 +110,7 @@ fn pass_each(s: &[u8], p: usize, from: usize, last: usize) -> usize
 {
     let mut d = from;
     while d < last {
-        if may_begin(s, p + (d + 1)) {
+        if mark_at(s, p + (d + 1)) != 0 {
             return d;
         }
         d += 1;
@@ -142,11 +142,18 @@ fn marked(s: &[u8], at: usize) -> u8
     let mut count: u8 = 0;
     let mut i: usize = 0;
     while i < 64 {
-        let o = at + i;
-        count += mark(s[o + 4], s[o + 5], s[o + 8], s[o + 9]);
+        count += mark_at(s, at + i);
         i += 1;
     }
     count
+}
+
+// The mark of an offset: 0 where no candidate can begin.
+fn mark_at(s: &[u8], at: usize) -> u8
+    requires { ⌜ at + 12 ≤ length (now s) ⌝ }
+    ensures { λ r. ⌜ (r ≤ 1) × (r ≡ 0 → fails ≡ over (now (s .entry)) (candidateAt at)) ⌝ }
+{
+    mark(s[at + 4], s[at + 5], s[at + 8], s[at + 9])
 }
 
 // 1 where the octets of a type and the first two of a length may be a candidate's. Most offsets fail by the first, and of the
@@ -170,12 +177,4 @@ fn mark(high: u8, low: u8, huge: u8, large: u8) -> u8
         return 0;
     }
     1
-}
-
-// Whether a candidate may begin at an offset.
-fn may_begin(s: &[u8], at: usize) -> bool
-    requires { ⌜ at + 12 ≤ length (now s) ⌝ }
-    ensures { λ r. ⌜ (r ≡ false → fails ≡ over (now (s .entry)) (candidateAt at)) ⌝ }
-{
-    mark(s[at + 4], s[at + 5], s[at + 8], s[at + 9]) != 0
 }

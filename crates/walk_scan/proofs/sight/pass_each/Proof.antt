@@ -14,14 +14,14 @@ abbrev μ-loop : tie.MeasureT-loop
 loop-holds : tie.Need-loop-holds Inv-loop μ-loop
 loop-holds c = (omega arith, omega arith, passed-none _ _ _)
 
-add-may-begin : tie.Need-add-may-begin Inv-loop μ-loop
-add-may-begin c = omega arith
+add-mark-at : tie.Need-add-mark-at Inv-loop μ-loop
+add-mark-at c = omega arith
 
-add-may-begin-2 : tie.Need-add-may-begin-2 Inv-loop μ-loop
-add-may-begin-2 c = omega arith
+add-mark-at-2 : tie.Need-add-mark-at-2 Inv-loop μ-loop
+add-mark-at-2 c = omega arith
 
-may-begin-requires : tie.Need-may-begin-requires Inv-loop μ-loop
-may-begin-requires c κs = omega arith
+mark-at-requires : tie.Need-mark-at-requires Inv-loop μ-loop
+mark-at-requires c κs = omega arith
 
 returns : tie.Need-returns Inv-loop μ-loop
 returns c = c .before .before .before .loop .inv
@@ -35,7 +35,7 @@ loop-less c = omega arith
 loop-again : tie.Need-loop-again Inv-loop μ-loop
 loop-again c =
     let at-loop = c .before .before .before in
-    (omega arith, omega arith, passed-one _ _ _ _ (at-loop .loop .inv .2) (c .before .may-begin .ensures (c .if1 .left)))
+    (omega arith, omega arith, passed-one _ _ _ _ (at-loop .loop .inv .2) (c .before .mark-at .ensures .1 (c .if1 .left)))
 
 returns-2 : tie.Need-returns-2 Inv-loop μ-loop
 returns-2 c = c .before .loop .inv
@@ -47,9 +47,9 @@ pass-each-spec =
     Inv-loop
     μ-loop
     loop-holds
-    add-may-begin
-    add-may-begin-2
-    may-begin-requires
+    add-mark-at
+    add-mark-at-2
+    mark-at-requires
     returns
     add-d
     loop-less

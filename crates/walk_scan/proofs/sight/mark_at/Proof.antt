@@ -1,9 +1,8 @@
 use native.Mathlib.Omega.{arith}
 use borrow.Author.Needs.{needs}
-use borrow.Author.Tests.{eqb-true, not-false}
 use Rattle.walk_candidate.proofs.Candidates.{candidate-unmarked}
-use Rattle.walk_scan.proofs.sight.may_begin.Statement.{statement}
-use Rattle.walk_scan.proofs.sight.may_begin.Tie as tie
+use Rattle.walk_scan.proofs.sight.mark_at.Statement.{statement}
+use Rattle.walk_scan.proofs.sight.mark_at.Tie as tie
 
 add-mark : tie.Need-add-mark
 add-mark c = search needs
@@ -33,10 +32,10 @@ mark-requires : tie.Need-mark-requires
 mark-requires c κs = search needs
 
 returns : tie.Need-returns
-returns c = λ e. candidate-unmarked _ _ (omega arith) (c .mark .ensures .1 (eqb-true _ _ (not-false _ e)))
+returns c = (c .mark .ensures .0, λ e. candidate-unmarked _ _ (omega arith) (c .mark .ensures .1 e))
 
-pub may-begin-spec : {M : Type 1} → statement M
-may-begin-spec =
+pub mark-at-spec : {M : Type 1} → statement M
+mark-at-spec =
     tie.close
     (tie.spec
     add-mark
