@@ -1,14 +1,29 @@
--- The cases of type 5.
-use Prim.Native.Nat.{ℕ, _<_, _≤_}
-use mathlib.Core.Path.{_≡_}
-use borrow.Author.Tests.{lt-ltb, le-ltb, le-leb, lt-leb, ne-eqb}
-use Rattle.walk_checks.specs.Within.{none}
+-- Rows of two numbers as bounds, and the cases of type 5.
+use Prim.Native.Nat.{ℕ, zero, suc, _<_, _≤_}
+use mathlib.Core.Path.{_≡_, refl, sym, ap}
+use mathlib.Core.List.{List, [], _∷_, map}
+use native.Mathlib.Omega.{arith}
+use lib.ListN.{length, getD, List·getD-eq-default}
+use borrow.Author.Tests.{lt-ltb, le-ltb, le-leb, lt-leb}
+use Rattle.walk_checks.specs.Within.{from-to, none}
 use Rattle.walk_checks.specs.Legacy.{legacyBounds, legacy}
 use Rattle.walk_checks.specs.declared.Bounds.{Bounds}
 
-pub legacy-rest : (u : ℕ) → (u ≡ 1 → ⊥) → (u ≡ 3 → ⊥) → (u ≡ 5 → ⊥) → (u ≡ 6 → ⊥) → (u ≡ 7 → ⊥) → none ≡ legacyBounds u
-unfolding legacyBounds
-legacy-rest u a b c d e = simp (ne-eqb _ _ a, ne-eqb _ _ b, ne-eqb _ _ c, ne-eqb _ _ d, ne-eqb _ _ e)
+-- bounds as a row
+abbrev pub pair : Bounds → List ℕ
+pair b = b .low ∷ b .high ∷ []
+
+pub of-row : {r : List ℕ} (b : Bounds) → r ≡ pair b → from-to (getD r 0 0) (getD r 1 0) ≡ b
+of-row b = ap (λ (r : List ℕ). from-to (getD r 0 0) (getD r 1 0))
+
+-- a row of a table, and what stands in for one beyond its end
+pub row-at : (bs : List Bounds) (u : ℕ) → u < length bs → getD (map pair bs) u [] ≡ pair (getD bs u none)
+row-at [] u h = absurd (omega arith)
+row-at (b ∷ bs) zero h = refl
+row-at (b ∷ bs) (suc u) h = row-at bs u (omega arith)
+
+pub row-beyond : (bs : List Bounds) (u : ℕ) → length bs ≤ u → pair none ≡ pair (getD bs u none)
+row-beyond bs u h = ap pair (sym (List·getD-eq-default bs none h))
 
 module _ (u n : ℕ) (b : Bounds) (e : b ≡ legacyBounds u) where
   pub legacy-other : b .high < b .low → 6 ≡ legacy u n

@@ -24,24 +24,31 @@ pub fn check_legacy(subtype: u16, stored: StoredLength) -> Outcome
     Outcome::Accepted
 }
 
+// The empty range: low above high.
+const NONE: [u32; 2] = [1, 0];
+
+// The least and the most octets of a body, a row for each subtype.
+const LEGACY_BOUNDS: [[u32; 2]; 8] = [
+    NONE,
+    [16, 65535],
+    NONE,
+    [10, 10],
+    NONE,
+    [22, 4089],
+    [14, 65535],
+    [12, 12],
+];
+
 fn legacy_bounds(subtype: u16) -> Bounds
     ensures { λ r. ⌜ r ≡ legacyBounds subtype ⌝ }
 {
-    match subtype {
-        1 => Bounds {
-            low: 16,
-            high: 65535,
-        },
-        3 => Bounds { low: 10, high: 10 },
-        5 => Bounds {
-            low: 22,
-            high: 4089,
-        },
-        6 => Bounds {
-            low: 14,
-            high: 65535,
-        },
-        7 => Bounds { low: 12, high: 12 },
-        _ => Bounds { low: 1, high: 0 },
+    let u = subtype as usize;
+    let mut row = NONE;
+    if u < LEGACY_BOUNDS.len() {
+        row = LEGACY_BOUNDS[u];
+    }
+    Bounds {
+        low: row[0],
+        high: row[1],
     }
 }

@@ -1,33 +1,29 @@
-use mathlib.Core.Path.{sym, ap}
-use Rattle.walk_checks.specs.Legacy.{legacyBounds}
-use Rattle.walk_checks.proofs.Lengths.{legacy-rest}
+use mathlib.Core.Path.{_∙_}
+use mathlib.Core.Logic.{⊎-elim}
+use Rattle.walk_checks.specs.Legacy.{legacyRows, legacyBounds}
+use Rattle.walk_checks.proofs.Lengths.{of-row, row-at, row-beyond}
+use borrow.Author.Needs.{needs}
 use Rattle.walk_checks.proofs.legacy.legacy_bounds.Statement.{statement}
 use Rattle.walk_checks.proofs.legacy.legacy_bounds.Tie as tie
 
+mul-row : tie.Need-mul-row
+mul-row c = search needs
+
+array-copy-out-row : tie.Need-array-copy-out-row
+array-copy-out-row c = search needs
+
+array-read-t21 : tie.Need-array-read-t21
+array-read-t21 c = search needs
+
+array-read-t24 : tie.Need-array-read-t24
+array-read-t24 c = search needs
+
 returns : tie.Need-returns
-unfolding legacyBounds
-returns c = ap legacyBounds (sym (c .match .keys1))
-
-returns-2 : tie.Need-returns-2
-unfolding legacyBounds
-returns-2 c = ap legacyBounds (sym (c .match .keys2))
-
-returns-3 : tie.Need-returns-3
-unfolding legacyBounds
-returns-3 c = ap legacyBounds (sym (c .match .keys3))
-
-returns-4 : tie.Need-returns-4
-unfolding legacyBounds
-returns-4 c = ap legacyBounds (sym (c .match .keys4))
-
-returns-5 : tie.Need-returns-5
-unfolding legacyBounds
-returns-5 c = ap legacyBounds (sym (c .match .keys5))
-
-returns-6 : tie.Need-returns-6
-returns-6 c =
-    legacy-rest _ (c .match .rest .0 .0 .0 .0 .1) (c .match .rest .0 .0 .0 .1) (c .match .rest .0 .0 .1) (c .match .rest .0 .1)
-    (c .match .rest .1)
+unfolding legacyRows legacyBounds
+returns c =
+    let u = c .before .args .subtype in
+    of-row (legacyBounds u)
+    (⊎-elim (λ w. w .2 ∙ row-at legacyRows u (w .0 .taken)) (λ w. w .1 ∙ row-beyond legacyRows u (w .0 .left)) (c .if1 .came))
 
 pub legacy-bounds-spec : {M : Type 1} → statement M
-legacy-bounds-spec = tie.close (tie.spec returns returns-2 returns-3 returns-4 returns-5 returns-6)
+legacy-bounds-spec = tie.close (tie.spec mul-row array-copy-out-row array-read-t21 array-read-t24 returns)
