@@ -47,8 +47,7 @@ fn legacy_bounds(subtype: u16) -> Bounds
     if u < LEGACY_BOUNDS.len() {
         row = LEGACY_BOUNDS[u];
     }
-    Bounds {
-        low: row[0],
-        high: row[1],
-    }
+    let low = row[0];
+    let high = row[1];
+    Bounds { low, high }
 }

@@ -12,11 +12,11 @@ mul-row c = search needs
 array-copy-out-row : tie.Need-array-copy-out-row
 array-copy-out-row c = search needs
 
-array-read-t21 : tie.Need-array-read-t21
-array-read-t21 c = search needs
+array-read-low : tie.Need-array-read-low
+array-read-low c = search needs
 
-array-read-t24 : tie.Need-array-read-t24
-array-read-t24 c = search needs
+array-read-high : tie.Need-array-read-high
+array-read-high c = search needs
 
 returns : tie.Need-returns
 unfolding legacyRows legacyBounds
@@ -26,4 +26,4 @@ returns c =
     (⊎-elim (λ w. w .2 ∙ row-at legacyRows u (w .0 .taken)) (λ w. w .1 ∙ row-beyond legacyRows u (w .0 .left)) (c .if1 .came))
 
 pub legacy-bounds-spec : {M : Type 1} → statement M
-legacy-bounds-spec = tie.close (tie.spec mul-row array-copy-out-row array-read-t21 array-read-t24 returns)
+legacy-bounds-spec = tie.close (tie.spec mul-row array-copy-out-row array-read-low array-read-high returns)
