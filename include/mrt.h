@@ -50,6 +50,8 @@ extern "C" {
 #define MRT_BUILDER_VALUES 3
 #define MRT_TABLE_DUMP_VALUES 8
 #define MRT_CANDIDATE_VALUES 3
+#define MRT_COUNTERS_VALUES 4
+#define MRT_MISSING_VALUES 3
 
 /* The kinds of a walk's answer. */
 #define MRT_RECORD 1
@@ -135,6 +137,22 @@ uint32_t mrt_next(const uint8_t *s, size_t s_len, uint64_t *walk, size_t walk_le
  * Refusals: those of mrt_next, 8 and 9, which leave everything as it was.
  */
 mrt_handed mrt_records(const uint8_t *s, size_t s_len, uint64_t *walk, size_t walk_len, uint64_t *out, size_t out_len);
+
+/*
+ * How many rows are missing between a record and the last one of its type before it, by their sequence numbers. To be called for
+ * each record that a walk hands out, in order; gaps need no call. `counters` has four places: 1 where a RIB record of type 13 was
+ * counted and 0 where none was, its sequence number, and the same two of type 12; fresh ones have four times 0. They are the
+ * caller's, to be kept from one stream to the next.
+ * Counted are type 13 of subtypes 2 to 5 and 8 to 11, and type 12 of any subtype, where the body has at least four octets. A peer
+ * table (type 13, subtype 1) clears all four places. Any other record leaves them.
+ * The later number minus the earlier one, minus 1, turns over at 2^32 for type 13 and at 2^16 for type 12: a number that has fallen
+ * by n gives 2^32 - n - 1 or 2^16 - n - 1, since nothing tells a fall from a turn.
+ * Values: 1, how many rows are missing, 1 where the number is the same again (and none are missing) or 0; or three times 0 where
+ * there is nothing to tell. Refusals: 8 (fewer than four counter places, a mark above 1, a number above 4,294,967,295 of type 13 or
+ * above 65,535 of type 12), 9.
+ */
+uint32_t mrt_missing(const uint8_t *body, size_t body_len, uint16_t type, uint16_t subtype, uint64_t *counters, size_t counters_len,
+                     uint64_t *out, size_t out_len);
 
 /*
  * The head of a PEER_INDEX_TABLE whose body holds every declared peer.

@@ -11,32 +11,37 @@ pub const MIB: usize = 1 << 20;
 
 /// The records of types 16 and 17 of all files at hand, repeated until there are so many octets.
 pub fn updates(octets: usize) -> Result<Vec<u8>, String> {
-    of_kinds(&[16, 17], octets)
+    of_kinds(&[16, 17], octets, |_| true)
 }
 
 /// The same of type 12.
 pub fn dumps(octets: usize) -> Result<Vec<u8>, String> {
-    of_kinds(&[12], octets)
+    of_kinds(&[12], octets, |_| true)
 }
 
-fn of_kinds(kinds: &[u16], octets: usize) -> Result<Vec<u8>, String> {
+/// The same of type 13, with every sixteenth record left out, so that rows are missing.
+pub fn tables(octets: usize) -> Result<Vec<u8>, String> {
+    of_kinds(&[13], octets, |place| place % 16 != 15)
+}
+
+fn of_kinds(kinds: &[u16], octets: usize, kept: impl Fn(usize) -> bool) -> Result<Vec<u8>, String> {
     let folder = real::folder();
     let files = real::files(&folder).map_err(|error| format!("{}: {error}", folder.display()))?;
-    let once: Vec<u8> = files.iter().flat_map(|(_, file)| records(file, kinds)).collect();
+    let all = files.iter().flat_map(|(_, file)| records(file, kinds)).enumerate();
+    let once: Vec<&[u8]> = all.filter(|(place, _)| kept(*place)).map(|(_, record)| record).collect();
+    let once = once.concat();
     if once.is_empty() {
         return Err(format!("{} has no file with records of types {kinds:?}", folder.display()));
     }
     Ok(once.repeat(octets.div_ceil(once.len())))
 }
 
-fn records(file: &[u8], kinds: &[u16]) -> Vec<u8> {
+fn records<'a>(file: &'a [u8], kinds: &[u16]) -> Vec<&'a [u8]> {
     let mut walk = Walk::default();
     let mut records = Vec::new();
     loop {
         match reading::step(file, &mut walk, MIB, 3) {
-            Event::Record { start, end, kind, .. } if kinds.contains(&kind) => {
-                records.extend_from_slice(&file[start..end]);
-            }
+            Event::Record { start, end, kind, .. } if kinds.contains(&kind) => records.push(&file[start..end]),
             event if event.is_last() => return records,
             _ => {}
         }

@@ -11,7 +11,7 @@ use measure::{measure, Line, Ratio, Work};
 use std::time::Duration;
 use works::peers::Table;
 use works::ribs::Rib;
-use works::{dumps, walks};
+use works::{dumps, missing, walks};
 
 const ROUNDS: usize = 15;
 
@@ -81,6 +81,8 @@ fn main() {
     chosen.walk("walk, a RIB of 73 MiB", || inputs::big("bird2012_big_rib46.mrt.xz"), MIB);
     let dumped = "32 MiB of type 12 records, walked and read";
     chosen.over(dumped, || inputs::dumps(32 * MIB), |stream| dumps::read(dumped, stream));
+    let counted = "32 MiB of type 13 records, missing rows counted";
+    chosen.over(counted, || inputs::tables(32 * MIB), |stream| missing::count(counted, stream));
     let torn = || inputs::updates(4 * MIB).map(|stream| inputs::torn(&stream));
     chosen.walk("walk, 4 MiB damaged every 5,000 octets", torn, MIB);
     chosen.walk("scan, 8 MiB of noise", || Ok(inputs::noise(8 * MIB)), 8 * MIB);

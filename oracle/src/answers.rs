@@ -189,6 +189,37 @@ pub struct Found {
     pub evidence: u8,
 }
 
+/// The last sequence number of each MRT type that has them, and whether one was seen: `table` of type 13, `dump` of type 12. The
+/// default is before the first record.
+#[derive(Debug, Clone, Copy, PartialEq, Eq, Default)]
+pub struct Counters {
+    pub table_seen: bool,
+    pub table: u32,
+    pub dump_seen: bool,
+    pub dump: u16,
+}
+
+/// What lies between a row and the last one of its type: so many rows, or none since it has the same number.
+#[derive(Debug, Clone, Copy, PartialEq, Eq, Default)]
+pub struct Missing {
+    pub missing: u32,
+    pub repeat: bool,
+}
+
+impl Missing {
+    /// The line of the listing, which stands after that of the record that starts there.
+    pub fn line(&self, start: usize) -> String {
+        format!("S\t{start}\t{}\t{}", self.missing, u8::from(self.repeat))
+    }
+}
+
+/// The counters after a record, and what is told of it where it is a row with another before it.
+#[derive(Debug, Clone, Copy, PartialEq, Eq, Default)]
+pub struct Counted {
+    pub counters: Counters,
+    pub told: Option<Missing>,
+}
+
 /// Held by the caller between two calls. A fresh walk is the default one.
 #[derive(Debug, Clone, Copy, PartialEq, Eq, Default)]
 pub struct Walk {

@@ -2,8 +2,8 @@
 //! expected answer with the lent memory after the call. `crates/oracle_questions/README.md` has the layout of each.
 
 use crate::answers::{
-    Answer, Candidate, DumpedRoute, Event, Frame, Header, NewDump, NewEntry, Peer, PeerTable, RibEntry, RibTable,
-    TableDump,
+    Answer, Candidate, Counted, Counters, DumpedRoute, Event, Frame, Header, NewDump, NewEntry, Peer, PeerTable,
+    RibEntry, RibTable, TableDump,
 };
 use crate::oracle::Oracle;
 use crate::question::{Question, Reply};
@@ -23,7 +23,7 @@ const MOST_ZEROS: usize = 16;
 const CURSOR_END: usize = 255;
 
 /// The list of each call, the first of which has the number 1.
-pub const LISTS: [&str; 21] = [
+pub const LISTS: [&str; 22] = [
     "header_read",
     "frame",
     "header_write",
@@ -45,6 +45,7 @@ pub const LISTS: [&str; 21] = [
     "whole_walk",
     "table_dump_read",
     "table_dump_write",
+    "missing",
 ];
 
 #[derive(Debug, Clone, PartialEq, Eq)]
@@ -75,10 +76,7 @@ fn asked(question: &Question, subject: &dyn Subject) -> Vec<Asked> {
         return Vec::new();
     };
     match (*question, reply) {
-        (Question::HeaderRead { stream, at }, Reply::Header(answer)) => {
-            let Answer { refusal, value: header } = answer;
-            vec![Asked::of(1, stream, &[at], frame(&Answer { refusal, value: Frame { header, body: 0, end: 0 } }))]
-        }
+        (Question::HeaderRead { stream, at }, Reply::Header(read)) => vec![Asked::of(1, stream, &[at], header(&read))],
         (Question::Frame { stream, at }, Reply::Frame(answer)) => vec![Asked::of(2, stream, &[at], frame(&answer))],
         (Question::Judge { stream, at }, Reply::Frame(answer)) => judged(stream, at, &answer, subject),
         (Question::BodyCheck { kind, subtype, stored, body }, Reply::Checked(refusal)) => {
@@ -103,6 +101,9 @@ fn asked(question: &Question, subject: &dyn Subject) -> Vec<Asked> {
         }
         (Question::TableDumpRead { subtype, body }, Reply::Dump(answer)) => {
             vec![Asked::of(20, body, &[subtype.into()], dump(&answer))]
+        }
+        (Question::Missing { counters, kind, subtype, body }, Reply::Counted(counted)) => {
+            vec![missing(counters, kind, subtype, body, &counted)]
         }
         (_, Reply::Written(answer, after)) => written(question, &answer, &after, subject),
         _ => Vec::new(),
@@ -277,6 +278,10 @@ fn answered(refusal: u8, values: &[usize]) -> Vec<u8> {
     }
 }
 
+fn header(answer: &Answer<Header>) -> Vec<u8> {
+    frame(&Answer { refusal: answer.refusal, value: Frame { header: answer.value, body: 0, end: 0 } })
+}
+
 fn frame(answer: &Answer<Frame>) -> Vec<u8> {
     let Frame { header: Header { timestamp, kind, subtype, wire, stored, micros }, body, end } = answer.value;
     let lengths = [wire as usize, stored as usize, micros as usize, body, end];
@@ -307,6 +312,18 @@ fn dump(answer: &Answer<TableDump>) -> Vec<u8> {
     let refusal = octets(&[answer.refusal.into()]);
     let numbers = octets(&[&route_numbers(&route)[..], &[attributes_at, attributes_end]].concat());
     [&refusal[..], &numbers, &route.prefix, &route.peer].concat()
+}
+
+/// The counters before and after, and 1 with what is told, or zeros.
+fn missing(before: Counters, kind: u16, subtype: u16, body: &[u8], counted: &Counted) -> Asked {
+    let told = counted.told.map_or([0; 3], |told| [1, told.missing as usize, told.repeat.into()]);
+    let numbers = [&places(before)[..], &[kind.into(), subtype.into()]].concat();
+    Asked::of(22, body, &numbers, octets(&[&places(counted.counters)[..], &told].concat()))
+}
+
+fn places(counters: Counters) -> [usize; 4] {
+    let Counters { table_seen, table, dump_seen, dump } = counters;
+    [table_seen.into(), table as usize, dump_seen.into(), dump.into()]
 }
 
 fn row(event: &Event) -> Vec<u8> {

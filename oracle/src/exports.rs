@@ -194,6 +194,16 @@ mod raw {
             attributes: *const u8,
             attributes_len: usize,
         ) -> Written;
+        pub fn mrt_missing(
+            body: *const u8,
+            len: usize,
+            kind: u16,
+            subtype: u16,
+            counters: *mut u64,
+            counters_places: usize,
+            out: *mut u64,
+            places: usize,
+        ) -> u32;
     }
 }
 
@@ -381,4 +391,11 @@ pub fn write_table_dump(out: &mut [u8], dump: &NewDump) -> Written {
             m,
         )
     }
+}
+
+/// Four counters, which are rewritten, and three values.
+#[inline]
+pub fn missing(body: &[u8], kind: u16, subtype: u16, counters: &mut [u64], out: &mut [u64]) -> u32 {
+    let (lent, places) = (counters.as_mut_ptr(), counters.len());
+    unsafe { raw::mrt_missing(body.as_ptr(), body.len(), kind, subtype, lent, places, out.as_mut_ptr(), out.len()) }
 }

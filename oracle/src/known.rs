@@ -44,6 +44,8 @@ pub fn may_be_silent(question: &Question, of_reading: &Reply) -> bool {
         Question::BodyCheck { .. } | Question::RibNext { .. } | Question::RibPush { .. } => true,
         // Its file for type 12 is not at hand.
         Question::TableDumpRead { .. } | Question::TableDumpWrite { .. } => true,
+        // It compares no two sequence numbers.
+        Question::Missing { .. } => true,
         // It is given all rows, and writes them at once, where a builder is that of a whole body.
         Question::RibPushRows { .. } => true,
         // A scan may stop among the octets that are put before the place in question.

@@ -9,6 +9,7 @@ pub mod damage;
 #[cfg(proved)]
 pub mod exports;
 pub mod known;
+pub mod listing;
 pub mod make;
 pub mod oracle;
 #[cfg(proved)]

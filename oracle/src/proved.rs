@@ -1,8 +1,8 @@
 //! The proved library, asked through its C exports (`include/mrt.h`). It is to have no difference from the reading.
 
 use crate::answers::{
-    Address, Answer, Builder, Candidate, DumpedRoute, Event, Frame, Header, NewDump, NewEntry, NewRows, Peer,
-    PeerTable, RibEntry, RibStep, RibTable, Rowed, TableDump, Walk,
+    Address, Answer, Builder, Candidate, Counted, Counters, DumpedRoute, Event, Frame, Header, Missing, NewDump,
+    NewEntry, NewRows, Peer, PeerTable, RibEntry, RibStep, RibTable, Rowed, TableDump, Walk,
 };
 use crate::exports::{self, Found, Handed, Written};
 use crate::question::{Question, Reply};
@@ -12,6 +12,8 @@ use crate::subject::{NewHead, NewTable, Subject};
 const AT_ODDS: u8 = 254;
 /// Octets that no answer is to keep.
 const LENT: [u8; 16] = [0xaa; 16];
+/// A place beside the lent ones, which a call is to leave.
+const BESIDE: u64 = 0xaaaa_aaaa_aaaa_aaaa;
 
 fn header(values: &[u64]) -> Header {
     Header {
@@ -142,6 +144,13 @@ fn pushed_both_ways(buffer: &mut [u8], subtype: u16, builder: &mut [u64; 3], ent
         return AT_ODDS.into();
     }
     refusal
+}
+
+/// The counters of their four places, where those beside them are as they were and each holds a number of its size.
+fn counters([before, table_seen, table, dump_seen, dump, after]: [u64; 6]) -> Option<Counters> {
+    let kept = (before, after) == (BESIDE, BESIDE) && table_seen.max(dump_seen) <= 1;
+    let (table, dump) = (table.try_into().ok()?, dump.try_into().ok()?);
+    kept.then_some(Counters { table_seen: table_seen == 1, table, dump_seen: dump_seen == 1, dump })
 }
 
 /// The entry added by a builder that is opened for it.
@@ -343,6 +352,22 @@ impl Subject for Proved {
 
     fn table_dump_write(&self, out: &mut [u8], dump: &NewDump) -> Option<Answer<usize>> {
         written(exports::write_table_dump(out, dump))
+    }
+
+    /// No answer, which is a failure, where the call refuses, writes beside what it was lent, or hands out what is no answer.
+    fn missing(&self, before: Counters, kind: u16, subtype: u16, body: &[u8]) -> Option<Counted> {
+        let Counters { table_seen, table, dump_seen, dump } = before;
+        let mut places = [BESIDE, table_seen.into(), table.into(), dump_seen.into(), dump.into(), BESIDE];
+        let mut out = [BESIDE; 5];
+        let refusal = exports::missing(body, kind, subtype, &mut places[1..5], &mut out[1..4]);
+        let told = match (refusal, out) {
+            (0, [BESIDE, 0, 0, 0, BESIDE]) => None,
+            (0, [BESIDE, 1, missing, repeat @ 0..=1, BESIDE]) => {
+                Some(Missing { missing: missing.try_into().ok()?, repeat: repeat == 1 })
+            }
+            _ => return None,
+        };
+        Some(Counted { counters: counters(places)?, told })
     }
 
     fn candidate(&self, stream: &[u8], offset: usize) -> Option<Answer<Candidate>> {

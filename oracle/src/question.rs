@@ -1,8 +1,8 @@
 //! One question with its input, put to any subject, and the reply with the lent memory as the call left it.
 
 use crate::answers::{
-    Address, Answer, Builder, Candidate, Event, Found, Frame, Header, NewDump, NewEntry, NewRows, Peer, PeerTable,
-    RibEntry, RibStep, RibTable, Rowed, TableDump, Tried, Walk,
+    Address, Answer, Builder, Candidate, Counted, Counters, Event, Found, Frame, Header, NewDump, NewEntry, NewRows,
+    Peer, PeerTable, RibEntry, RibStep, RibTable, Rowed, TableDump, Tried, Walk,
 };
 use crate::subject::{NewHead, NewTable, Subject};
 
@@ -27,6 +27,7 @@ pub enum Question<'a> {
     RibPushRows { buffer: &'a [u8], subtype: u16, builder: Builder, rows: NewRows<'a> },
     TableDumpRead { subtype: u16, body: &'a [u8] },
     TableDumpWrite { room: &'a [u8], dump: NewDump<'a> },
+    Missing { counters: Counters, kind: u16, subtype: u16, body: &'a [u8] },
     Candidate { stream: &'a [u8], at: usize },
     Aligned { stream: &'a [u8], from: usize, asked: u8 },
     Scan { stream: &'a [u8], from: usize, window: usize, asked: u8 },
@@ -50,6 +51,7 @@ pub enum Reply {
     Pushed(Answer<Builder>, Vec<u8>),
     Rowed(Answer<Rowed>, Vec<u8>),
     Dump(Answer<TableDump>),
+    Counted(Counted),
     Candidate(Answer<Candidate>),
     Tried(Tried),
     Found(Found),
@@ -109,6 +111,9 @@ impl Question<'_> {
                 subject.rib_next(subtype, body, at, left).map(Reply::RibStep)
             }
             Question::TableDumpRead { subtype, body } => subject.table_dump_read(subtype, body).map(Reply::Dump),
+            Question::Missing { counters, kind, subtype, body } => {
+                subject.missing(counters, kind, subtype, body).map(Reply::Counted)
+            }
             _ => self.put_writing_question(subject),
         }
     }
@@ -157,6 +162,7 @@ impl Question<'_> {
             Question::RibPushRows { .. } => "rib push by rows",
             Question::TableDumpRead { .. } => "table dump read",
             Question::TableDumpWrite { .. } => "table dump write",
+            Question::Missing { .. } => "missing rows",
             Question::Candidate { .. } => "candidate",
             Question::Aligned { .. } => "aligned try",
             Question::Scan { .. } => "scan",
@@ -183,7 +189,8 @@ impl Question<'_> {
             | Question::RibRead { body, .. }
             | Question::RibEntry { body, .. }
             | Question::RibNext { body, .. }
-            | Question::TableDumpRead { body, .. } => body,
+            | Question::TableDumpRead { body, .. }
+            | Question::Missing { body, .. } => body,
             Question::RibPush { buffer, .. } | Question::RibPushRows { buffer, .. } => buffer,
             Question::RibAdd { buffer, length, .. } => buffer.get(..length).unwrap_or(buffer),
             _ => &[],
@@ -204,6 +211,9 @@ impl Question<'_> {
             Question::Frame { at, .. } => Some(Question::Frame { stream: input, at }),
             Question::RibRead { subtype, .. } => Some(Question::RibRead { subtype, body: input }),
             Question::TableDumpRead { subtype, .. } => Some(Question::TableDumpRead { subtype, body: input }),
+            Question::Missing { counters, kind, subtype, .. } => {
+                Some(Question::Missing { counters, kind, subtype, body: input })
+            }
             _ => None,
         }
     }

@@ -1,6 +1,6 @@
 //! What 01 promises of every single reply, checked without a second opinion.
 
-use crate::answers::{Answer, Event, RibTable, Rowed, Walk};
+use crate::answers::{Answer, Counted, Counters, Event, Missing, RibTable, Rowed, Walk};
 use crate::question::{Question, Reply};
 use crate::subject::most_calls;
 
@@ -10,6 +10,10 @@ pub fn broken(question: &Question, reply: &Reply) -> Option<&'static str> {
         (Question::Walk { stream, .. }, Reply::Walk(events)) => broken_by_walk(events, stream.len()),
         (Question::Step { stream, walk, .. }, Reply::Step(event, after)) => {
             broken_by_step(stream.len(), *walk, *event, *after)
+        }
+        (Question::Missing { counters, kind, subtype, body }, Reply::Counted(counted)) => {
+            broken_by_counters(*counters, *kind, *subtype, counted.counters)
+                .or_else(|| broken_by_missing(*counters, *kind, body, counted))
         }
         (_, Reply::Header(answer)) => broken_by_refusal(answer),
         (_, Reply::Frame(answer)) => broken_by_refusal(answer),
@@ -83,6 +87,35 @@ fn broken_by_writing<T: PartialEq>(before: &[T], after: &[T], range: std::ops::R
 fn broken_by_rows(refusal: u8, before: u64, rows: usize, after: u64) -> Option<&'static str> {
     let counted = refusal != 0 || after == before + rows as u64;
     (!counted).then_some("the count is not raised by the rows")
+}
+
+/// A type changes its own counter alone, and a peer table clears both.
+fn broken_by_counters(before: Counters, kind: u16, subtype: u16, after: Counters) -> Option<&'static str> {
+    let kept = match (kind, subtype) {
+        (13, 1) => after == Counters::default(),
+        (13, _) => (after.dump_seen, after.dump) == (before.dump_seen, before.dump),
+        (12, _) => (after.table_seen, after.table) == (before.table_seen, before.table),
+        _ => after == before,
+    };
+    (!kept).then_some("a counter of another type was changed")
+}
+
+/// Counting on from the earlier number, over the missing rows and one more, comes to the one that stands in the body, and never
+/// once around. A repeat goes on by none.
+fn broken_by_missing(before: Counters, kind: u16, body: &[u8], counted: &Counted) -> Option<&'static str> {
+    let Counted { counters: after, told: Some(Missing { missing, repeat }) } = *counted else {
+        return None;
+    };
+    let (seen, bits, earlier, later, octets) = match kind {
+        12 => (before.dump_seen && after.dump_seen, 16, before.dump.into(), after.dump.into(), body.get(2..4)),
+        13 => (before.table_seen && after.table_seen, 32, before.table, after.table, body.get(..4)),
+        _ => return Some("a type without sequence numbers has missing rows"),
+    };
+    let number = octets.map(|octets| octets.iter().fold(0, |sum, &octet| 256 * sum + u64::from(octet)));
+    let (steps, numbers) = (u64::from(missing) + u64::from(!repeat), 1 << bits);
+    let leads = steps < numbers && (u64::from(earlier) + steps) % numbers == later.into() && repeat == (steps == 0);
+    let right = seen && leads && number == Some(later.into());
+    (!right).then_some("the missing rows do not lead from the earlier number to the later")
 }
 
 /// Where the walk stands after each kind of answer.

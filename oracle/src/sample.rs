@@ -89,12 +89,14 @@ fn way(question: &Question, reply: &Reply) -> String {
             format!("{} {}", answer.refusal, answer.value.attributes_end - answer.value.attributes_at)
         }
         Reply::Entry(answer) => format!("{} {}", answer.refusal, answer.value.age.signum()),
+        Reply::Counted(counted) => format!("{:?}", counted.told.map(|told| (told.missing.min(1), told.repeat))),
         Reply::Walk(events) => events.iter().map(shape).collect(),
         other => format!("{other:?}"),
     };
     let of = match question {
         // 01 knows no type above 49
         Question::HeaderWrite { header, .. } => header.kind.min(50),
+        Question::Missing { kind: kind @ (12 | 13), .. } => *kind,
         Question::RibRead { subtype, .. }
         | Question::RibEntry { subtype, .. }
         | Question::TableDumpRead { subtype, .. }

@@ -1,8 +1,8 @@
 //! Whoever answers 01's questions: the plain reading, the crate, and later the proved library through its C exports.
 
 use crate::answers::{
-    Address, Answer, Builder, Candidate, Event, Found, Frame, Header, NewDump, NewEntry, NewRows, Peer, PeerTable,
-    RibEntry, RibStep, RibTable, Rowed, TableDump, Tried, Walk,
+    Address, Answer, Builder, Candidate, Counted, Counters, Event, Found, Frame, Header, NewDump, NewEntry, NewRows,
+    Peer, PeerTable, RibEntry, RibStep, RibTable, Rowed, TableDump, Tried, Walk,
 };
 use crate::reading;
 
@@ -93,6 +93,11 @@ pub trait Subject {
     }
 
     fn table_dump_write(&self, out: &mut [u8], dump: &NewDump) -> Option<Answer<usize>> {
+        None
+    }
+
+    /// A record counted: the counters after it, and how many rows are missing before it.
+    fn missing(&self, counters: Counters, kind: u16, subtype: u16, body: &[u8]) -> Option<Counted> {
         None
     }
 
@@ -244,6 +249,10 @@ impl Subject for Reading {
 
     fn table_dump_write(&self, out: &mut [u8], dump: &NewDump) -> Option<Answer<usize>> {
         Some(reading::write_table_dump(out, dump))
+    }
+
+    fn missing(&self, counters: Counters, kind: u16, subtype: u16, body: &[u8]) -> Option<Counted> {
+        Some(reading::count_missing(counters, kind, subtype, body))
     }
 
     fn candidate(&self, stream: &[u8], at: usize) -> Option<Answer<Candidate>> {

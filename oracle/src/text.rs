@@ -57,6 +57,7 @@ pub fn settings(question: &Question) -> String {
             format!("subtype {subtype}, timestamp {timestamp}, entry {index}")
         }
         Question::RibNext { subtype, at, left, .. } => format!("subtype {subtype}, at {at}, {left} left"),
+        Question::Missing { counters, kind, subtype, .. } => format!("type {kind}, subtype {subtype}, {counters:?}"),
         _ => table_settings(question),
     }
 }

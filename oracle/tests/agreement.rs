@@ -1,6 +1,6 @@
 //! A short run of the comparison, and the smallest input for each known difference.
 
-use mrt_oracle::campaigns::{pushes, rows, streams, table_dumps, tokens};
+use mrt_oracle::campaigns::{missing, pushes, rows, streams, table_dumps, tokens};
 use mrt_oracle::compare::Differ;
 use mrt_oracle::question::Question;
 use mrt_oracle::random::Random;
@@ -11,6 +11,7 @@ fn the_crate_and_the_reading_agree() {
     let mut put = |question: &Question| differ.ask(question);
     tokens::short(&mut put);
     pushes::run(&mut put, &mut Random::new(2));
+    missing::run(&mut put, &mut Random::new(2));
     table_dumps::run(&mut put, &mut Random::new(2));
     streams::run(&mut put, &mut Random::new(2), 500);
     assert_eq!(differ.failures(), 0, "{}", differ.report());

@@ -1,10 +1,10 @@
 //! routes FILE..: who has how many routes in MRT dumps, and what of them could not be read.
 //!
 //! For each file: the routes of each peer, by the RIB records and their peer table, or by the TABLE_DUMP records; the BGP4MP
-//! records of each peer; the records by kind; every gap with its reason; and a total. Status 0 means that every file was read to
-//! its end, 1 that one was not, 2 that no file was named.
+//! records of each peer; the records by kind; every gap with its reason; the rows that are missing by the sequence numbers; and a
+//! total. Status 0 means that every file was read to its end, 1 that one was not, 2 that no file was named.
 
-use mrt::{Exhausted, Frame, Gap, Item, Peer, PeerTable, Record, Refusal, Rib, TableDump, Walk};
+use mrt::{Counters, Exhausted, Frame, Gap, Item, Missing, Peer, PeerTable, Record, Refusal, Rib, TableDump, Walk};
 use std::collections::BTreeMap;
 use std::ffi::{OsStr, OsString};
 use std::io::{self, BufWriter, ErrorKind, IsTerminal, Write};
@@ -86,6 +86,11 @@ struct Report {
     /// Each gap, and why no record was taken there.
     gaps: Vec<(Gap, String)>,
     exhausted: Option<(Exhausted, String)>,
+    /// Fresh for each file: files may be named in any order and be of any collector, so what is said of one hangs on no other. An
+    /// agent that follows the rotated files of one daemon keeps its counters from file to file.
+    counters: Counters,
+    /// The first records before which rows are missing: where each starts, and how many.
+    lacking: Vec<(usize, u32)>,
     total: Total,
 }
 
@@ -103,13 +108,28 @@ struct Total {
     routes: u64,
     /// Entries that RIB records declare and do not hold.
     missing: u64,
+    rows: Rows,
     gaps: u64,
     /// Octets in gaps, and octets after an exhausted window.
     lost: usize,
     unread: usize,
 }
 
+/// What the sequence numbers say: whole records, where `missing` of the total is of entries inside a record.
+#[derive(Default, Clone, Copy)]
+struct Rows {
+    /// How many records had one of the same type before them.
+    compared: u64,
+    missing: u64,
+    /// How many records had rows missing before them.
+    before: u64,
+    repeated: u64,
+}
+
 impl Report {
+    /// So many records before which rows are missing are named.
+    const SHOWN: usize = 20;
+
     /// Walks over a whole file.
     fn of(file: &OsStr, stream: &[u8]) -> Report {
         let mut report = Report::default();
@@ -131,6 +151,9 @@ impl Report {
     fn take(&mut self, record: &Record<'_>) {
         self.total.records += 1;
         *self.kinds.entry((record.header.kind, record.header.subtype)).or_default() += 1;
+        if let Some(missing) = self.counters.count(record) {
+            self.take_missing(record.start, missing);
+        }
         if let Some(index) = record.peer_index() {
             // A file may have several tables. Each holds for the records after it.
             self.peers = vec![Peer::default(); index.count.into()];
@@ -158,6 +181,14 @@ impl Report {
     fn take_route(&mut self, dump: &TableDump<'_>) {
         self.total.routes += 1;
         *self.routes.entry(Who::Peer(dump.peer_address(), dump.asn.into())).or_default() += 1;
+    }
+
+    fn take_missing(&mut self, start: usize, Missing { rows, repeat, .. }: Missing) {
+        let [before, repeated] = [rows > 0, repeat].map(u64::from);
+        self.total.rows += Rows { compared: 1, missing: rows.into(), before, repeated };
+        if rows > 0 && self.lacking.len() < Report::SHOWN {
+            self.lacking.push((start, rows));
+        }
     }
 
     fn take_gap(&mut self, stream: &[u8], gap: Gap) {
@@ -267,7 +298,24 @@ impl fmt::Display for Report {
         if let Some((Exhausted { start, window, .. }, reason)) = &self.exhausted {
             writeln!(f, "  not read from {start} on: {reason}; no record to go on from within {window} octets")?;
         }
+        self.missing_rows(f)?;
         writeln!(f, "  {}", self.total)
+    }
+}
+
+impl Report {
+    /// Where rows are missing, or nothing where none are.
+    fn missing_rows(&self, f: &mut fmt::Formatter<'_>) -> fmt::Result {
+        if !self.lacking.is_empty() {
+            writeln!(f, "  rows missing")?;
+        }
+        for (start, rows) in &self.lacking {
+            writeln!(f, "    at {start}: {rows}")?;
+        }
+        match self.total.rows.before - self.lacking.len() as u64 {
+            0 => Ok(()),
+            more => writeln!(f, "    and {more} more"),
+        }
     }
 }
 
@@ -295,13 +343,33 @@ impl fmt::Display for Who {
 
 impl fmt::Display for Total {
     fn fmt(&self, f: &mut fmt::Formatter<'_>) -> fmt::Result {
-        let Total { octets, records, routes, missing, gaps, lost, unread } = self;
+        let Total { octets, records, routes, missing, rows, gaps, lost, unread } = self;
         write!(f, "total: octets {octets}, records {records}, routes {routes}, gaps {gaps}, octets in gaps {lost}")?;
         if *missing > 0 {
             write!(f, ", routes declared and missing {missing}")?;
         }
+        write!(f, "{rows}")?;
         if *unread > 0 {
             write!(f, ", octets not read {unread}")?;
+        }
+        Ok(())
+    }
+}
+
+/// Nothing where no two records were compared.
+impl fmt::Display for Rows {
+    fn fmt(&self, f: &mut fmt::Formatter<'_>) -> fmt::Result {
+        let Rows { compared, missing, before, repeated } = self;
+        if *compared > 0 {
+            write!(f, ", rows missing {missing}")?;
+        }
+        match before {
+            0 => {}
+            1 => write!(f, " before 1 record")?,
+            _ => write!(f, " before {before} records")?,
+        }
+        if *repeated > 0 {
+            write!(f, ", row numbers repeated {repeated}")?;
         }
         Ok(())
     }
@@ -313,9 +381,19 @@ impl ops::AddAssign for Total {
         self.records += other.records;
         self.routes += other.routes;
         self.missing += other.missing;
+        self.rows += other.rows;
         self.gaps += other.gaps;
         self.lost += other.lost;
         self.unread += other.unread;
+    }
+}
+
+impl ops::AddAssign for Rows {
+    fn add_assign(&mut self, other: Rows) {
+        self.compared += other.compared;
+        self.missing += other.missing;
+        self.before += other.before;
+        self.repeated += other.repeated;
     }
 }
 

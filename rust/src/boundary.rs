@@ -64,6 +64,16 @@ unsafe extern "C" {
         out: *mut u64,
         out_len: usize,
     ) -> Handed;
+    fn mrt_missing(
+        body: *const u8,
+        body_len: usize,
+        kind: u16,
+        subtype: u16,
+        counters: *mut u64,
+        counters_len: usize,
+        out: *mut u64,
+        out_len: usize,
+    ) -> u32;
     fn mrt_check_peers(body: *const u8, body_len: usize, out: *mut u64, out_len: usize) -> u32;
     fn mrt_load_peers(body: *const u8, body_len: usize, slots: *mut Peer, slots_len: usize) -> u32;
     fn mrt_find_peer(
@@ -274,6 +284,17 @@ pub(crate) fn records(s: &[u8], walk: &mut [u64; 2], rows: &mut [[u64; 10]]) -> 
     let handed =
         unsafe { mrt_records(s.as_ptr(), s.len(), walk.as_mut_ptr(), walk.len(), out.as_mut_ptr(), out.len()) };
     handed.count as usize
+}
+
+/// 1, how many rows are missing, 1 for a repeat; or zeros. Counters that this call alone has written are never refused.
+pub(crate) fn missing(body: &[u8], kind: u16, subtype: u16, counters: &mut [u64; 4]) -> [u64; 3] {
+    let mut out = [0; 3];
+    let (state, state_len) = (counters.as_mut_ptr(), counters.len());
+    // SAFETY: each slice is lent with its own length, and the two that are written are borrowed apart.
+    unsafe {
+        mrt_missing(body.as_ptr(), body.len(), kind, subtype, state, state_len, out.as_mut_ptr(), out.len());
+    }
+    out
 }
 
 /// Collector, where the view name starts, its octets, how many peers, where the first one starts, where the last one ends.

@@ -30,6 +30,7 @@
 //! - [`Walk`] goes through a stream: [`Record`]s and [`Gap`]s, each once and in order.
 //! - [`Record::peer_index`] and [`PeerTable`]: who the peers are. [`Record::rib`] and [`Entries`]: their routes.
 //! - [`Record::table_dump`]: a route and its peer, in the older TABLE_DUMP.
+//! - [`Counters`]: how many rows of a table are missing between its records, by their sequence numbers.
 //! - [`NewHeader`], [`PeerTable::write`], [`RibBuilder`] and [`NewTableDump`] write; [`RibBuilder::extend_from`] writes many
 //!   routes at a time.
 //! - [`Header`], [`Frame`], [`check_body`] and [`Candidate`] are the parts that a walk is made of.
@@ -55,6 +56,7 @@
 mod boundary;
 mod check;
 mod header;
+mod missing;
 mod peers;
 mod refusal;
 mod rib;
@@ -65,6 +67,7 @@ mod walk;
 
 pub use check::{Candidate, Evidence, check_body};
 pub use header::{Frame, Header, NewHeader, Record, StoredLength, WireLength};
+pub use missing::{Counters, Missing};
 pub use peers::{Added, Peer, PeerIndex, PeerTable};
 pub use refusal::Refusal;
 pub use rib::{Entries, Entry, Prefix, Rib};

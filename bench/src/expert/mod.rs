@@ -2,6 +2,7 @@
 //! once, everything open to the optimizer.
 
 pub mod dump;
+pub mod missing;
 pub mod peers;
 pub mod record;
 pub mod rib;

@@ -2,6 +2,7 @@
 //! that the caller lends. What they lose against the calls without the wall, a library in C's manner loses.
 
 use super::dump;
+use super::missing::{values, Counters};
 use super::record::{judge, Verdict};
 use super::rib::{Builder, Entries};
 use super::walk::{Answer, Walk};
@@ -122,4 +123,12 @@ pub fn read_table_dump(body: &[u8], subtype: u16, out: &mut [u64; 8], [prefix, p
             0
         }
     }
+}
+
+/// A record counted.
+#[inline(never)]
+pub fn missing(body: &[u8], kind: u16, subtype: u16, places: &mut [u64; 4], out: &mut [u64; 3]) {
+    let mut counters = Counters::at(*places);
+    *out = values(counters.count(kind, subtype, body));
+    *places = counters.places();
 }

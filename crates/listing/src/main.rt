@@ -13,10 +13,10 @@ fn input_room() -> [u8; 65537]
 }
 
 // Room for every listing.
-fn text_room() -> [u8; 1168933]
+fn text_room() -> [u8; 1649589]
     ensures { λ r. ⌜ room ≡ length r ⌝ }
 {
-    [0; 1168933]
+    [0; 1649589]
 }
 
 fn main() {

@@ -10,9 +10,12 @@ use borrow.Author.Tests.{ltb-false}
 use Rattle.walk.specs.Step.{Answer, handed, gap, end, refused, Stepped, freshWalk}
 use Rattle.walk.specs.Promises.{upTo, answers}
 use Rattle.walk.specs.declared.Walk.{Walk}
-use Rattle.listing_lines.specs.Listing.{fields, linesOf, called, walked, listing, listed, room}
+use Rattle.walk_missing.specs.Row.{freshCounters}
+use Rattle.walk_missing.specs.declared.Counters.{Counters}
+use Rattle.walk_missing.proofs.Rows.{told-le}
+use Rattle.listing_lines.specs.Listing.{fields, counting, linesOf, called, walked, listing, listed, room}
 use Rattle.listing_lines.proofs.Texts.{length-fields-le}
-use Rattle.listing_lines.proofs.Lines.{length-line-le}
+use Rattle.listing_lines.proofs.Lines.{length-lines-le}
 
 length-upTo-le : (a : Answer) (l : List Answer) → length (upTo a l) ≤ suc (length l)
 unfolding upTo
@@ -28,23 +31,31 @@ length-answers-le call zero w = omega arith
 length-answers-le call (suc m) w =
     let i = length-answers-le call m (call w .walk) in omega (arith, length-upTo-le (call w .answer) (answers call m (call w .walk)))
 
-length-lines-le : (l : List Answer) → length (linesOf l) ≤ 107 * length l
-unfolding linesOf
-length-lines-le [] = omega arith
-length-lines-le (a ∷ l) = simp length-append (omega (arith, length-line-le a, length-lines-le l))
+length-told-le : (s : List ℕ) (c : Counters) (a : Answer) → length (counting s c a .told) ≤ 2
+length-told-le s c (handed a f) = told-le c (f .head .subtype) _ (f .head .kind)
+length-told-le s c (gap a e r v n) = omega arith
+length-told-le s c (end a) = omega arith
+length-told-le s c (refused n a w r) = omega arith
 
--- THEOREM. Whatever the stream is, its listing has at most 1,168,933 octets, so that an output of that many holds it whole.
+length-text-le : (s : List ℕ) (c : Counters) (l : List Answer) → length (linesOf s c l) ≤ 151 * length l
+unfolding linesOf
+length-text-le s c [] = omega arith
+length-text-le s c (a ∷ l) =
+    simp length-append
+    (omega (arith, length-lines-le a (counting s c a .told) (length-told-le s c a), length-text-le s (counting s c a .counters) l))
+
+-- THEOREM. Whatever the stream is, its listing has at most 1,649,589 octets, so that an output of that many holds it whole.
 pub listing-room : (s : List ℕ) → length (listing s) ≤ room
 unfolding listing
 listing-room s = by-test (ltb 65536 (length s)) refl
   where
     by-test : (t : Bool) → ltb 65536 (length s) ≡ t
-        → length (cond t (fields 76 (65536 ∷ [])) (fields 72 (length s ∷ 1048576 ∷ 3 ∷ []) ++ linesOf (walked s))) ≤ room
+        → length (cond t (fields 76 (65536 ∷ [])) (fields 72 (length s ∷ 1048576 ∷ 3 ∷ []) ++ linesOf s freshCounters (walked s))) ≤ room
     by-test true e = omega (arith, length-fields-le 76 (65536 ∷ []))
     by-test false e =
         let l : length s ≤ 65536 = ltb-false _ _ e in
         let h = length-fields-le 72 (length s ∷ 1048576 ∷ 3 ∷ []) in
-        let k = length-lines-le (walked s) in
+        let k = length-text-le s freshCounters (walked s) in
         let j = length-answers-le (called s) (2 * (length s / 12) + 2) freshWalk in
         simp length-append (omega arith)
 

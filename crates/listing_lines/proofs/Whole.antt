@@ -8,9 +8,11 @@ use borrow.Author.Tests.{le-ltb}
 use Rattle.walk.specs.Step.{Answer, handed, gap, end, refused}
 use Rattle.walk.specs.Promises.{Promised, Covers, Sought}
 use Rattle.walk_judge.specs.Record.{judgeAt}
+use Rattle.walk_missing.specs.Row.{freshCounters}
+use Rattle.walk_missing.specs.declared.Counters.{Counters}
 use Rattle.walk_candidate.specs.Candidate.{candidateAt}
 use Rattle.walk_step.proofs.Theorems.{walk-promises}
-use Rattle.listing_lines.specs.Listing.{fields, line, linesOf, walked, listing}
+use Rattle.listing_lines.specs.Listing.{fields, lines, counting, linesOf, walked, listing}
 
 -- THEOREM. The answers that a listing shows have all that a whole walk promises.
 pub listing-promises : (s : List ℕ) → Promised judgeAt candidateAt s 1048576 3 (walked s)
@@ -37,21 +39,23 @@ module _ (s : List ℕ) (h : length s ≤ 65536) where
   listing-shows = sought-shown (walked s) (listing-promises s .sought)
 
 -- lines that cover a stream of n octets end with the line of its end
-covered-ends : (n p : ℕ) (l : List Answer) → Covers n p l → Shown l → (front : List ℕ) × (linesOf l ≡ front ++ line (end n))
-unfolding linesOf line
-covered-ends n p [] q z = absurd q
-covered-ends n p (handed a f ∷ l) q z =
-    let (front, e) = covered-ends n (f .end) l (q .3) z in
-    (line (handed a f) ++ front, rw (e, ← append-assoc))
-covered-ends n p (gap a e r v c ∷ l) q z =
-    let (front, d) = covered-ends n e l (q .3) z in
-    (line (gap a e r v c) ++ front, rw (d, ← append-assoc))
-covered-ends n p (end a ∷ l) q z = ([], rw (q .2, q .0, q .1, append-nil))
-covered-ends n p (refused x a w r ∷ l) q z = absurd z
+covered-ends : (s : List ℕ) (c : Counters) (p : ℕ) (l : List Answer) → Covers (length s) p l → Shown l
+    → (front : List ℕ) × (linesOf s c l ≡ front ++ fields 69 (length s ∷ []))
+unfolding linesOf lines
+covered-ends s c p [] q z = absurd q
+covered-ends s c p (handed a f ∷ l) q z =
+    let x = counting s c (handed a f) in
+    let (front, e) = covered-ends s (x .counters) (f .end) l (q .3) z in
+    (lines (handed a f) (x .told) ++ front, rw (e, ← append-assoc))
+covered-ends s c p (gap a e r v n ∷ l) q z =
+    let (front, d) = covered-ends s c e l (q .3) z in
+    (lines (gap a e r v n) [] ++ front, rw (d, ← append-assoc))
+covered-ends s c p (end a ∷ l) q z = ([], rw (q .2, q .0, q .1, append-nil))
+covered-ends s c p (refused x a w r ∷ l) q z = absurd z
 
 -- THEOREM. The last line of the listing of at most 65,536 octets is E with their number.
 pub listing-ends : (s : List ℕ) → length s ≤ 65536 → (front : List ℕ) × (listing s ≡ front ++ fields 69 (length s ∷ []))
-unfolding listing line
+unfolding listing
 listing-ends s h =
-    let (front, e) = covered-ends (length s) 0 (walked s) (listing-promises s .covers) (listing-shows s h) in
+    let (front, e) = covered-ends s freshCounters 0 (walked s) (listing-promises s .covers) (listing-shows s h) in
     (fields 72 (length s ∷ 1048576 ∷ 3 ∷ []) ++ front, rw (le-ltb 65536 (length s) h, e, ← append-assoc))

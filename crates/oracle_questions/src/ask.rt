@@ -1,6 +1,7 @@
 // One question: its octets, the call, and whether the answer is the expected one.
 use crate::dumps;
 use crate::headers;
+use crate::missing;
 use crate::peers;
 use crate::put::part;
 use crate::ribs;
@@ -57,6 +58,7 @@ fn answer(call: u8, a: &[u8], b: &[u8], x: &[u8], out: &mut [u8]) -> usize {
         19 => walks::whole(a, x, out),
         20 => dumps::read(a, x, out),
         21 => dumps::write(a, b, x, out),
+        22 => missing::count(a, x, out),
         _ => usize::MAX,
     }
 }

@@ -2,6 +2,7 @@
 mod ask;
 mod dumps;
 mod headers;
+mod missing;
 mod peers;
 mod put;
 mod ribs;

@@ -5,7 +5,7 @@ use libc::STDOUT_FILENO;
 // One octet more than can be listed, so that a longer stream is seen.
 const STREAM: usize = 65537;
 // One octet more than any listing has, so that a longer file is seen.
-const TEXT: usize = 1168934;
+const TEXT: usize = 1649590;
 
 fn main() {
     let mut stream = [0u8; STREAM];

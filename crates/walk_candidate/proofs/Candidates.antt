@@ -229,7 +229,7 @@ candidate-accepted s p v e q = by-place (leb p (length s)) refl
 pub sound : Sound judgeAt candidateAt
 sound =
     record {
-      fits = λ s p f q. rw q at (inside s p);
+      fits = λ s p f q. let i = rw q at (inside s p) in (i .0, i .1);
       offs = λ s p r e q. rw q at (inside s p);
       off-number = off-number;
       cut-number = cut-number;

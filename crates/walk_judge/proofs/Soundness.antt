@@ -23,7 +23,7 @@ use Rattle.walk_judge.proofs.Bodies.{check-number}
 -- a record that is framed has 12 octets or more, all of them there, and is refused with 5, 6 or 7; where none is framed the
 -- number is 1 to 4, and only 1 and 4 are for want of octets
 abbrev pub JudgedOk : ℕ → Bool → ℕ → Judged → Type 0
-JudgedOk at b m (fit f) = (f .head .number ≡ 0) × (at + 12 ≤ f .end) × (f .end ≤ at + m) × (b ≡ false)
+JudgedOk at b m (fit f) = (f .head .number ≡ 0) × (at + 12 ≤ f .end) × (f .end ≤ at + m) × (b ≡ false) × (f .body ≤ f .end)
 JudgedOk at b m (off r e) = (5 ≤ r) × (r ≤ 7) × (at + 12 ≤ e) × (e ≤ at + m) × (b ≡ false)
 JudgedOk at b m (cut r) = (1 ≤ r) × (r ≤ 4) × ((r ≡ 1 → ⊥) → (r ≡ 4 → ⊥) → b ≡ false)
 
@@ -35,7 +35,8 @@ verdict-ok at b m f o = meets-cond (JudgedOk at) (eqb (f .head .number) 0) b m _
         → JudgedOk at b m (cond t (fit f) (off n (f .end)))
     by-check n c true t z =
         let r = o .room z in let e = o .end z in let l = size-least (f .head .kind) in
-        (z, omega arith, omega arith, o .all-there (λ y. omega arith) (λ y. omega arith))
+        let i = o .body z in
+        (z, omega arith, omega arith, o .all-there (λ y. omega arith) (λ y. omega arith), omega arith)
     by-check n c false t z =
         let r = o .room z in let e = o .end z in let l = size-least (f .head .kind) in
         let w = c (eqb-false n 0 t) in
@@ -70,7 +71,7 @@ module _ (s : List ℕ) (p : ℕ) where
 
 -- a record that is framed lies in the stream
 abbrev pub Inside : ℕ → ℕ → Judged → Type 0
-Inside p n (fit f) = (p + 12 ≤ f .end) × (f .end ≤ n)
+Inside p n (fit f) = (p + 12 ≤ f .end) × (f .end ≤ n) × (f .body ≤ f .end)
 Inside p n (off r e) = (p + 12 ≤ e) × (e ≤ n)
 Inside p n (cut r) = Unit
 
@@ -85,7 +86,7 @@ module _ (s : List ℕ) (p : ℕ) where
   both = by-place (leb p (length s)) refl
     where
       by-judged : (m : ℕ) (b : Bool) → p + m ≤ length s → (j : Judged) → JudgedOk p b m j → Inside p (length s) j × Numbered j
-      by-judged m b u (fit f) q = ((q .1, let y = q .2 in omega arith), q .0)
+      by-judged m b u (fit f) q = ((q .1, (let y = q .2 in omega arith), q .4), q .0)
       by-judged m b u (off r e) q = ((q .2, let y = q .3 in omega arith), (q .0, q .1))
       by-judged m b u (cut r) q = (tt, (q .0, q .1))
 

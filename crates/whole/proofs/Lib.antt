@@ -3,6 +3,7 @@
 -- construction. Runs: entries one after the other. Rebuilt: a body put together from what is read of it. Records: a record in a stream is
 -- judged fit. Written: a header and a body that the calls wrote are one record. Streams: a stream of records is walked as exactly those.
 -- Copied: a body copied by rows. Stopped: where rows stop. Mixed: what runs of exported calls promise.
+-- Missing: what is told of a RIB record, by those before it.
 pub mod Peers
 pub mod PeerTables
 pub mod HandedOut
@@ -19,3 +20,4 @@ pub mod Streams
 pub mod Copied
 pub mod Stopped
 pub mod Mixed
+pub mod Missing

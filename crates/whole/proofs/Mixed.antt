@@ -30,7 +30,7 @@ use Rattle.whole.specs.Made.{Holds, Made, one, many, Calls, answersOf, v
 use Rattle.whole.specs.Made.{full-next, full-records, answered, Nexts}
 
 -- a truth value told by its mark
-mark-told : (b : Bool) → eqb (mark b) 1 ≡ b
+pub mark-told : (b : Bool) → eqb (mark b) 1 ≡ b
 mark-told true = refl
 mark-told false = refl
 

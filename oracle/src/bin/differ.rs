@@ -3,7 +3,7 @@
 //! input for each known difference instead.
 
 use mrt_oracle::campaigns::{
-    bounds, edges, headers, peers, pushes, real, records, ribs, rows, streams, table_dumps, tokens,
+    bounds, edges, headers, missing, peers, pushes, real, records, ribs, rows, streams, table_dumps, tokens,
 };
 use mrt_oracle::compare::Differ;
 use mrt_oracle::question::Question;
@@ -58,8 +58,9 @@ fn run_campaigns(differ: &mut Differ, settings: &Settings) {
     timed("headers", || headers::run(&mut put, &mut random));
     timed("peers", || peers::run(&mut put, &mut random));
     timed("ribs", || ribs::run(&mut put, &mut random));
-    // With numbers of its own: the other questions of a seed, of which the lists are made, stay as they are.
+    // These two with numbers of their own: the other questions of a seed stay as they are.
     timed("pushes", || pushes::run(&mut put, &mut Random::new(settings.seed)));
+    timed("missing", || missing::run(&mut put, &mut Random::new(settings.seed)));
     timed("dumps", || table_dumps::run(&mut put, &mut random));
     timed("records", || records::run(&mut put));
     timed("tokens", || tokens::run(&mut put, &mut random));

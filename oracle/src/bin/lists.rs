@@ -2,7 +2,7 @@
 //! same build writes the same lists.
 
 use mrt_oracle::asked;
-use mrt_oracle::campaigns::{bounds, headers, peers, records, ribs, streams, table_dumps, tokens, Put};
+use mrt_oracle::campaigns::{bounds, headers, missing, peers, records, ribs, streams, table_dumps, tokens, Put};
 use mrt_oracle::question::Question;
 use mrt_oracle::random::Random;
 use mrt_oracle::sample::Sample;
@@ -13,7 +13,7 @@ use std::{env, fs, io};
 const SEED: u64 = 1;
 const STREAMS: u64 = 5_000;
 
-const CAMPAIGNS: [fn(Put, &mut Random); 7] = [
+const CAMPAIGNS: [fn(Put, &mut Random); 8] = [
     headers::run,
     peers::run,
     ribs::run,
@@ -21,6 +21,7 @@ const CAMPAIGNS: [fn(Put, &mut Random); 7] = [
     |put, _| tokens::short(put),
     |put, random| streams::run(put, random, STREAMS),
     table_dumps::run,
+    missing::run,
 ];
 
 /// Every question around the bounds, and a choice of the campaigns' others. Each campaign has random numbers of its own:

@@ -1,10 +1,10 @@
 //! Walks a file as the reading of 01 does and prints the lines of its listing: `walk FILE [WINDOW] [CONFIRMATIONS]`.
-//! Says at the end whether the crate answers the same, and where it does not, for which known difference.
+//! Says at the end whether the crate walks the same, and where it does not, for which known difference.
 
-use mrt_oracle::known;
 use mrt_oracle::oracle::Oracle;
 use mrt_oracle::question::Question;
-use mrt_oracle::subject::{Reading, Subject};
+use mrt_oracle::subject::Reading;
+use mrt_oracle::{known, listing};
 use std::process::ExitCode;
 use std::{env, fs};
 
@@ -29,9 +29,8 @@ fn main() -> ExitCode {
             return ExitCode::FAILURE;
         }
     };
-    println!("H\t{}\t{window}\t{asked}", stream.len());
-    for event in Reading.walk(&stream, window, asked).iter().flatten() {
-        println!("{}", event.line());
+    for line in listing::lines(&stream, window, asked) {
+        println!("{line}");
     }
     eprintln!("the crate answers {}", answer_of_crate(&Question::Walk { stream: &stream, window, asked }));
     ExitCode::SUCCESS

@@ -6,6 +6,7 @@ use crate::question::Question;
 pub mod bounds;
 pub mod edges;
 pub mod headers;
+pub mod missing;
 pub mod peers;
 pub mod pushes;
 pub mod real;

@@ -1,6 +1,6 @@
 //! Real files: whole, in pieces, and damaged.
 
-use super::{streams, Put, ASKED};
+use super::{missing, streams, Put, ASKED};
 use crate::answers::{Event, NewDump};
 use crate::damage;
 use crate::question::Question;
@@ -55,6 +55,7 @@ fn whole(put: Put, stream: &[u8]) {
         }
     }
     put(&Question::Causes { stream, window: 1 << 20, asked: 3 });
+    missing::each_record(put, stream, 3);
 }
 
 fn damaged(put: Put, random: &mut Random, file: &[u8]) {
@@ -66,6 +67,7 @@ fn damaged(put: Put, random: &mut Random, file: &[u8]) {
         put(&Question::Walk { stream: &stream, window: random.pick(&[100, 1 << 20, usize::MAX]), asked });
     }
     put(&Question::Causes { stream: &stream, window: 1 << 20, asked: 3 });
+    missing::each_record(put, &stream, 3);
 }
 
 /// A piece from anywhere, so that most begin inside a record, with some damage.

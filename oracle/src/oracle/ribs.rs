@@ -138,7 +138,8 @@ pub fn push_rows(buffer: &mut [u8], subtype: u16, builder: Builder, rows: &NewRo
     let mut rib = parse(subtype, body).ok()?;
     let count_at = 5 + usize::from(rib.prefix.prefix.prefix_len).div_ceil(8);
     let stands = (builder.count_at, builder.count) == (count_at, rib.rib_entries.len() as u64);
-    if !stands || rows.values.len() % 5 != 0 || rib.encode().ok()?[..] != *body {
+    let whole_rows = rows.values.chunks_exact(5).remainder().is_empty();
+    if !stands || !whole_rows || rib.encode().ok()?[..] != *body {
         return None;
     }
     for row in rows.values.chunks_exact(5) {

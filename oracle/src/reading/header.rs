@@ -64,6 +64,12 @@ pub fn frame(stream: &[u8], at: usize) -> Answer<Frame> {
     framed(stream, at).into()
 }
 
+/// The body of the record at an offset; no octets where none is framed.
+pub fn body(stream: &[u8], at: usize) -> &[u8] {
+    let Frame { body, end, .. } = frame(stream, at).value;
+    &stream[body..end]
+}
+
 #[inline]
 pub fn framed(stream: &[u8], at: usize) -> Result<Frame, u8> {
     let header = front_header(stream.get(at..).ok_or(8)?)?;

@@ -3,6 +3,7 @@
 
 mod check;
 mod header;
+mod missing;
 mod octets;
 mod peers;
 mod rib;
@@ -10,7 +11,8 @@ mod table_dump;
 mod walk;
 
 pub use check::body_check;
-pub use header::{frame, read_header, write_header};
+pub use header::{body, frame, read_header, write_header};
+pub use missing::count_missing;
 pub use peers::{add_peer, find_peer, read_peer, read_peers, write_peers};
 pub use rib::{add_entry, begin_rib, next_entry, push_entry, push_rows, read_entry, read_rib};
 pub use table_dump::{read_table_dump, write_table_dump};

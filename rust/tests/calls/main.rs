@@ -3,6 +3,7 @@
 mod dumps;
 mod headers;
 mod listings;
+mod missing;
 mod peers;
 mod ribs;
 mod walks;

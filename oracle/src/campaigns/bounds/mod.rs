@@ -2,6 +2,7 @@
 //! that have a form there (`asked.rs`) stand in the lists that the proved program replays.
 
 mod headers;
+mod missing;
 mod peers;
 mod records;
 mod ribs;
@@ -17,4 +18,5 @@ pub fn run(put: Put) {
     ribs::run(put);
     table_dumps::run(put);
     walks::run(put);
+    missing::run(put);
 }

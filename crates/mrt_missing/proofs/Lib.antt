@@ -1,0 +1,2 @@
+-- Counts: lent counters, and a record counted with them.
+pub mod Counts

@@ -1,0 +1,2 @@
+-- Missing: a record counted with counters that are lent.
+pub mod Missing
