@@ -1,6 +1,6 @@
 -- The lines of a walk's answers, written one call after the other.
 use Prim.Native.Nat.{ℕ, suc, _+_, _-_, _*_, _/_, _<_, _≤_}
-use mathlib.Core.Path.{_≡_, refl, sym, _∙_, ap}
+use mathlib.Core.Path.{_≡_, refl, sym, _∙_, ap, subst}
 use mathlib.Core.Bool.{true, false}
 use mathlib.Core.List.{List, [], _∷_, _++_, append-nil}
 use native.Mathlib.Nat.{zero-add}
@@ -13,21 +13,22 @@ use Rattle.answer.specs.declared.Refusal.{Refusal}
 use Rattle.walk.specs.Step.{Answer, handed, gap, end, refused, freshWalk}
 use Rattle.walk.specs.Promises.{upTo, answers}
 use Rattle.walk.specs.declared.Walk.{Walk}
-use Rattle.walk_missing.specs.Row.{freshCounters, told}
+use Rattle.walk_missing.specs.Row.{Counting, freshCounters, told}
 use Rattle.walk_missing.specs.declared.Counters.{Counters}
 use Rattle.walk_missing.specs.declared.Missing.{Missing}
-use Rattle.walk_missing.specs.declared.Missing.the-variants.{Nothing, Repeat, Rows}
+use Rattle.walk_missing.proofs.Rows.{told-le}
 use Rattle.walk_step.specs.Answers.{said}
 use Rattle.walk_step.specs.declared.WalkAnswer.{WalkAnswer}
 use Rattle.walk_step.specs.declared.WalkAnswer.the-variants.{Gap}
 use Rattle.listing_lines.specs.Listing.{wrote, fields, missingLine, lines, counting, linesOf, called, listing, listed, isLast}
-use Rattle.listing_lines.proofs.Texts.{wrote-run, wrote-none, length-fields-le}
+use Rattle.listing_lines.proofs.Texts.{wrote-run, wrote-none, wrote-le, length-fields-le}
 
 -- what is told has two numbers, or none
-pub told-short : (m : Missing) → length (told m) ≤ 2
-told-short Nothing = omega arith
-told-short Repeat = omega arith
-told-short (Rows n) = omega arith
+pub length-told-le : (s : List ℕ) (c : Counters) (a : Answer) → length (counting s c a .told) ≤ 2
+length-told-le s c (handed a f) = told-le c (f .head .subtype) _ (f .head .kind)
+length-told-le s c (gap a e r v n) = omega arith
+length-told-le s c (end a) = omega arith
+length-told-le s c (refused n a w r) = omega arith
 
 length-missing-le : (a : ℕ) (o : List ℕ) → length o ≤ 2 → length (missingLine a o) ≤ 65
 unfolding missingLine
@@ -96,6 +97,12 @@ module _ (s : List ℕ) (m : ℕ) (w : Walk) (c : Counters) (out : List ℕ) (at
   text-first j z = rw (z, ← q)
 
   module _ {t : List ℕ} {e : ℕ} (h : 0 < m) (p : (t, e) ≡ wrote out at (lines a o)) where
+    -- where they end
+    pub text-le : e ≤ at + 151
+    text-le =
+        let l : length o ≤ 2 = subst (λ (x : Counting). length (x .told) ≤ 2) (sym k) (length-told-le s c a) in
+        wrote-le out at (lines a o) 151 (length-lines-le a o l) p
+
     pub text-next : isLast a ≡ false → wrote t e (text s (m - 1) v d) ≡ wrote out at (text s m w c)
     unfolding linesOf
     text-next g =

@@ -12,10 +12,9 @@ use Rattle.walk.specs.Promises.{upTo, answers}
 use Rattle.walk.specs.declared.Walk.{Walk}
 use Rattle.walk_missing.specs.Row.{freshCounters}
 use Rattle.walk_missing.specs.declared.Counters.{Counters}
-use Rattle.walk_missing.proofs.Rows.{told-le}
 use Rattle.listing_lines.specs.Listing.{fields, counting, linesOf, called, walked, listing, listed, room}
 use Rattle.listing_lines.proofs.Texts.{length-fields-le}
-use Rattle.listing_lines.proofs.Lines.{length-lines-le}
+use Rattle.listing_lines.proofs.Lines.{length-told-le, length-lines-le}
 
 length-upTo-le : (a : Answer) (l : List Answer) → length (upTo a l) ≤ suc (length l)
 unfolding upTo
@@ -30,12 +29,6 @@ unfolding answers
 length-answers-le call zero w = omega arith
 length-answers-le call (suc m) w =
     let i = length-answers-le call m (call w .walk) in omega (arith, length-upTo-le (call w .answer) (answers call m (call w .walk)))
-
-length-told-le : (s : List ℕ) (c : Counters) (a : Answer) → length (counting s c a .told) ≤ 2
-length-told-le s c (handed a f) = told-le c (f .head .subtype) _ (f .head .kind)
-length-told-le s c (gap a e r v n) = omega arith
-length-told-le s c (end a) = omega arith
-length-told-le s c (refused n a w r) = omega arith
 
 length-text-le : (s : List ℕ) (c : Counters) (l : List Answer) → length (linesOf s c l) ≤ 151 * length l
 unfolding linesOf

@@ -1,5 +1,5 @@
 -- What is told of a RIB record, by the records that were counted before it.
-use Prim.Native.Nat.{ℕ, _+_, _^_, _%_, _<_, _≤_}
+use Prim.Native.Nat.{ℕ, _^_, _<_, _≤_}
 use mathlib.Core.Path.{_≡_, refl, sym, _∙_, ap, subst}
 use mathlib.Core.Bool.{Bool, true, false, _&&_, cond, true≢false}
 use mathlib.Core.List.{List, [], _∷_, _++_}

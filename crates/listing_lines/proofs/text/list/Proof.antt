@@ -6,7 +6,7 @@ use borrow.Author.Needs.{needs}
 use Rattle.walk.specs.declared.Walk.{Walk}
 use Rattle.listing_lines.specs.Listing.{wrote, room}
 use Rattle.listing_lines.proofs.Texts.{wrote-le, length-fields-le}
-use Rattle.listing_lines.proofs.Lines.{text, told-short, length-lines-le, text-over, text-next, text-last, list-long, list-short}
+use Rattle.listing_lines.proofs.Lines.{text, text-le, text-over, text-next, text-last, list-long, list-short}
 use Rattle.listing_lines.proofs.Bodies.{answer-lies, walk-lies}
 use Rattle.listing_lines.proofs.text.list.Statement.{statement}
 use Rattle.listing_lines.proofs.text.list.Tie as tie
@@ -102,7 +102,11 @@ loop-again c =
     let row = put .before .before in
     let turn = row .before in
     let loop = turn .before .before in (
-      omega (arith, wrote-le _ _ _ 151 (length-lines-le _ _ (told-short (row .count-answer .result .missing))) (put .put-lines .ensures)),
+      omega (
+        arith,
+        text-le _ _ _ _ _ _ _ _ (turn .step .ensures) _ _ (row .count-answer .ensures) (turn .before .loop-test .taken)
+            (put .put-lines .ensures),
+      ),
       put .put-lines .kept .0 ∙ loop .loop .inv .1,
       walk-lies _ _ (loop .loop .inv .2) _ _ (turn .step .ensures),
       text-next _ _ _ _ _ _ _ _ (turn .step .ensures) _ _ (row .count-answer .ensures) (turn .before .loop-test .taken)
