@@ -98,9 +98,7 @@ fn put_lines(out: &mut [u8], at: usize, answer: WalkAnswer, missing: Missing) ->
             body: _,
             end,
         } => {
-            let kind = header.kind as usize;
-            let subtype = header.subtype as usize;
-            let values = [start, end, kind, subtype];
+            let values = [start, end, header.kind as usize, header.subtype as usize];
             put_record(out, at, start, &values, missing)
         }
         WalkAnswer::Gap {

@@ -9,11 +9,11 @@ use Rattle.listing_lines.proofs.text.put_lines.Tie as tie
 enum-known-answer : tie.Need-enum-known-answer
 enum-known-answer c = search needs
 
-cast-kind : tie.Need-cast-kind
-cast-kind c = search needs
+cast-t19 : tie.Need-cast-t19
+cast-t19 c = search needs
 
-cast-subtype : tie.Need-cast-subtype
-cast-subtype c = search needs
+cast-t20 : tie.Need-cast-t20
+cast-t20 c = search needs
 
 slice-aggregate-put-record : tie.Need-slice-aggregate-put-record
 slice-aggregate-put-record c = search needs
@@ -97,8 +97,8 @@ put-lines-spec =
     tie.close
     (tie.spec
     enum-known-answer
-    cast-kind
-    cast-subtype
+    cast-t19
+    cast-t20
     slice-aggregate-put-record
     put-record-requires
     enum-known-answer-2
