@@ -9,7 +9,8 @@ use lib.Dec.{leb, eqb}
 use borrow.Author.Tests.{le-leb, lt-leb, eq-eqb, ne-eqb}
 use Rattle.rib_head.specs.Layout.{carried, ipv4, ipv6}
 use Rattle.walk_missing.specs.Turned.{width, apart, shown, since}
-use Rattle.walk_missing.specs.Row.{Counting, freshCounters, seen, last, kept, untold, isRow, isPeers, sequence, countRow, count}
+use Rattle.walk_missing.specs.Row.{Counting, freshCounters, seen, last, kept, untold}
+use Rattle.walk_missing.specs.Row.{isRow, isPeers, sequence, numbered, countRow, count}
 use Rattle.walk_missing.specs.declared.Counters.{Counters}
 
 module _ (w e l : ℕ) where
@@ -49,14 +50,7 @@ module _ (narrow : Bool) (c : Counters) (s : List ℕ) where
   unfolding countRow
   row-le = by-test (leb 4 (length s))
     where
-      by-test : (t : Bool)
-          → length (cond t
-          (record {
-            counters = kept narrow c (sequence narrow s);
-            told = since (width narrow) (seen narrow c) (last narrow c) (sequence narrow s);
-          })
-          (untold c) .told)
-          ≤ 2
+      by-test : (t : Bool) → length (cond t (numbered narrow c (sequence narrow s)) (untold c) .told) ≤ 2
       by-test true = since-le (width narrow) (last narrow c) (sequence narrow s) (seen narrow c)
       by-test false = omega arith
 

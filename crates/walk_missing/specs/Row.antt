@@ -61,15 +61,13 @@ isPeers k t = eqb k 13 && eqb t 1
 abbrev pub sequence : Bool → List ℕ → ℕ
 sequence narrow s = cond narrow (beAt s 2 2) (beAt s 0 4)
 
+-- a record with the number v
+abbrev pub numbered : Bool → Counters → ℕ → Counting
+numbered narrow c v = record { counters = kept narrow c v; told = since (width narrow) (seen narrow c) (last narrow c) v }
+
 -- a record that is counted; a body of fewer than four octets has no number
 unfoldable pub countRow : Bool → Counters → List ℕ → Counting
-countRow narrow c s =
-    cond (leb 4 (length s))
-    (record {
-      counters = kept narrow c (sequence narrow s);
-      told = since (width narrow) (seen narrow c) (last narrow c) (sequence narrow s);
-    })
-    (untold c)
+countRow narrow c s = cond (leb 4 (length s)) (numbered narrow c (sequence narrow s)) (untold c)
 
 -- a record of the type k and the subtype t with the body s
 unfoldable pub count : Counters → ℕ → ℕ → List ℕ → Counting

@@ -14,7 +14,7 @@ use Rattle.rib_head.specs.Layout.{carried, ipv4, ipv6}
 use Rattle.rib_write.proofs.Standing.{both}
 use Rattle.walk_missing.specs.Turned.{width, apart, shown, since}
 use Rattle.walk_missing.specs.Row.{Counting as Counted, freshCounters, seen, last, kept, untold, told, counted, isRow, isPeers, sequence}
-use Rattle.walk_missing.specs.Row.{countRow, count}
+use Rattle.walk_missing.specs.Row.{numbered, countRow, count}
 use Rattle.walk_missing.specs.declared.Counters.{Counters}
 use Rattle.walk_missing.specs.declared.Missing.the-variants.{Repeat, Rows}
 use Rattle.walk_missing.proofs.Turns.{Between, rows-only, repeat-only}
@@ -29,17 +29,10 @@ Same narrow c d = (seen narrow c ≡ seen narrow d) × (last narrow c ≡ last n
 
 -- one record with its tests as they came out: a and b whether it is of type 12 or a RIB of type 13, p a peer table, f four octets or more
 module _ (c : Counters) (s : List ℕ) where
-  abbrev numbered : Bool → Counted
-  numbered narrow =
-      record {
-        counters = kept narrow c (sequence narrow s);
-        told = since (width narrow) (seen narrow c) (last narrow c) (sequence narrow s);
-      }
-
   abbrev by-tests : (a b p f : Bool) → Counted
   by-tests a b p f =
-      cond a (cond f (numbered true) (untold c))
-      (cond b (cond f (numbered false) (untold c)) (cond p (untold freshCounters) (untold c)))
+      cond a (cond f (numbered true c (sequence true s)) (untold c))
+      (cond b (cond f (numbered false c (sequence false s)) (untold c)) (cond p (untold freshCounters) (untold c)))
 
   count-tests : (k t : ℕ) → count c k t s ≡ by-tests (isRow true k t) (isRow false k t) (isPeers k t) (leb 4 (length s))
   unfolding count countRow
@@ -61,7 +54,8 @@ module _ (c : Counters) (s : List ℕ) where
   other-keeps false false false false f r n = (refl, refl)
 
   -- a row has its number counted
-  row-counts : (narrow a b p f : Bool) → (cond narrow a b && f) ≡ true → (narrow ≡ false → a ≡ false) → by-tests a b p f ≡ numbered narrow
+  row-counts : (narrow a b p f : Bool) → (cond narrow a b && f) ≡ true → (narrow ≡ false → a ≡ false)
+      → by-tests a b p f ≡ numbered narrow c (sequence narrow s)
   row-counts true true b p true r n = refl
   row-counts true true b p false r n = absurd (true≢false (sym r))
   row-counts true false b p f r n = absurd (true≢false (sym r))
@@ -108,7 +102,7 @@ module _ (c : Counters) (x : Counts) (q : counted (x .returned) ≡ count c (x .
   call-other false r n =
       subst (λ (z : Counted). Same false (z .counters) c) (sym tested) (other-keeps c (x .body) false of-12 of-13 (peers x) four r n)
 
-  call-row : (narrow : Bool) → row narrow x ≡ true → counted (x .returned) ≡ numbered c (x .body) narrow
+  call-row : (narrow : Bool) → row narrow x ≡ true → counted (x .returned) ≡ numbered narrow c (sequence narrow (x .body))
   call-row true r = tested ∙ row-counts c (x .body) true of-12 of-13 (peers x) four r (λ e. absurd (true≢false e))
   call-row false r =
       tested
