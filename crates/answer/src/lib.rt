@@ -1,8 +1,10 @@
 // What every layer answers with: why a call cannot serve, and what a writer has done.
+#![tactic(auto)]
+
 ghost use Rattle.std.specs.Prelude.{◌≡◌};
 ghost use Rattle.answer.specs.Refusal.{number_of};
 
-#[derive(Drop)]
+#[derive(Clone, Copy)]
 pub enum Refusal {
     TruncatedHeader,
     UnknownType,
@@ -17,14 +19,14 @@ pub enum Refusal {
 }
 
 // Whether a call has served, beside a value that no enum can hold.
-#[derive(Drop)]
+#[derive(Clone, Copy)]
 pub enum Outcome {
     Accepted,
     Refused(Refusal),
 }
 
 // What a writer has done with its lent output.
-#[derive(Drop)]
+#[derive(Clone, Copy)]
 pub enum Written {
     Octets(usize),
     Refused(Refusal),

@@ -1,10 +1,12 @@
 // The body of a TABLE_DUMP record (RFC 6396, 4.2): one route of one peer. Its subtype decides the size of its addresses.
+#![tactic(auto)]
+
 mod check;
 
 pub use check::check_dump;
 
 // A body without its attributes.
-#[derive(Drop)]
+#[derive(Clone, Copy)]
 pub struct Dump {
     pub view: u16,
     pub sequence: u16,

@@ -1,11 +1,13 @@
 // Bodies of TABLE_DUMP records, read (RFC 6396, 4.2). Attributes stay octets of the body.
+#![tactic(auto)]
+
 mod body;
 
 use answer::Outcome;
 pub use body::read_dump;
 use dump_layout::Dump;
 
-#[derive(Drop)]
+#[derive(Clone, Copy)]
 pub struct DumpRead {
     pub outcome: Outcome,
     pub dump: Dump,

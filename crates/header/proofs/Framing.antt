@@ -104,7 +104,7 @@ framed_ok at b m h o =
     meets_cond (FrameOk at) (eqb h.number 0) b m _ _
     (λ e. (
       record {
-        known_type = o.known-type;
+        known_type = o.known_type;
         most = omega arith;
         body = λ y. refl;
         end = λ y. refl;

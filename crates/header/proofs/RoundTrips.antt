@@ -95,7 +95,7 @@ module _ (h : CommonHeader) (i : InWidth h) where
       → over (write_header s h).output header ≡ accepted h.timestamp h.kind h.subtype (wire_of h).0 h.length.0 h.micros
   read_of_write s z =
       let a = write_accepted h s z in
-      rw a.all (sym (read_octets (drop (length (header_octets h)) s) a.known-type a.fits))
+      rw a.all (sym (read_octets (drop (length (header_octets h)) s) a.known_type a.fits))
 
 -- the octets of the header that was read are the octets that stood there
 module _ (s : List ℕ) (o : Octets s) where

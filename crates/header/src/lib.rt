@@ -1,4 +1,6 @@
 // The MRT common header, read and written, and the record that it frames (RFC 6396, 2 and 3).
+#![tactic(auto)]
+
 mod frame;
 mod kind;
 mod read;
@@ -11,14 +13,14 @@ pub use read::read_header;
 pub use write::write_header;
 
 // The length as it stands in the header: of a type with microseconds it counts those too.
-#[derive(Drop)]
+#[derive(Clone, Copy)]
 pub struct WireLength(pub u32);
 
 // The length of the body alone.
-#[derive(Drop)]
+#[derive(Clone, Copy)]
 pub struct StoredLength(pub u32);
 
-#[derive(Drop)]
+#[derive(Clone, Copy)]
 pub struct CommonHeader {
     pub timestamp: u32,
     pub kind: u16,
@@ -28,7 +30,7 @@ pub struct CommonHeader {
     pub micros: u32,
 }
 
-#[derive(Drop)]
+#[derive(Clone, Copy)]
 pub enum HeaderAnswer {
     Read {
         header: CommonHeader,
@@ -37,7 +39,7 @@ pub enum HeaderAnswer {
     Refused(Refusal),
 }
 
-#[derive(Drop)]
+#[derive(Clone, Copy)]
 pub enum FrameAnswer {
     Framed {
         header: CommonHeader,

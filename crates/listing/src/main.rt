@@ -1,4 +1,6 @@
 // Lists the records and gaps of a dump: standard input in, a line for each to standard output.
+#![tactic(auto)]
+
 ghost use Rattle.std.specs.Prelude.{◌≡◌, length};
 ghost use Rattle.listing_lines.specs.Listing.{room};
 

@@ -1,4 +1,6 @@
 // TABLE_DUMP bodies across the boundary, read.
+#![tactic(auto)]
+
 ghost use Rattle.std.specs.Prelude.{◌≡◌};
 ghost use Rattle.dump_read.specs.Read.{dump_of};
 ghost use Rattle.mrt_dump.specs.Bodies.{dump_out};

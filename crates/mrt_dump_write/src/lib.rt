@@ -1,4 +1,6 @@
 // TABLE_DUMP bodies across the boundary, written.
+#![tactic(auto)]
+
 ghost use Rattle.std.specs.Prelude.{◌≡◌};
 ghost use Rattle.mrt_lent.specs.Writer.{written_out};
 ghost use Rattle.mrt_dump_write.specs.Write.{write_from};

@@ -1,4 +1,6 @@
 // Headers and framing across the boundary.
+#![tactic(auto)]
+
 ghost use Rattle.std.specs.Prelude.{◌≡◌};
 ghost use Rattle.header.specs.Read.{header_at};
 ghost use Rattle.header.specs.Frame.{frame_at};

@@ -1,4 +1,6 @@
 // Judgements across the boundary: a record, a body, and a candidate of a scan.
+#![tactic(auto)]
+
 ghost use Rattle.std.specs.Prelude.{◌≡◌};
 ghost use Rattle.walk_judge.specs.Body.{check};
 ghost use Rattle.walk_judge.specs.Record.{judgement_at};

@@ -1,6 +1,8 @@
 // What crosses the boundary to C and Rust: a call returns a refusal's number, 0 where it has served, and hands its values out
 // in the places that the caller lends; beside the number a writer returns how many octets it has written, and a call that hands
 // out rows how many.
+#![tactic(auto)]
+
 mod hand;
 mod record;
 mod writer;
@@ -11,7 +13,7 @@ pub use writer::wrote_of;
 
 // What a writer returns: no octets where it has refused.
 #[repr(C)]
-#[derive(Drop)]
+#[derive(Clone, Copy)]
 pub struct Wrote {
     pub octets: u64,
     pub refusal: u32,
@@ -19,7 +21,7 @@ pub struct Wrote {
 
 // What a call returns that hands out rows of values: how many, and none where it has refused.
 #[repr(C)]
-#[derive(Drop)]
+#[derive(Clone, Copy)]
 pub struct Handed {
     pub count: u64,
     pub refusal: u32,

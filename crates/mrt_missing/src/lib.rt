@@ -1,4 +1,6 @@
 // Missing rows across the boundary.
+#![tactic(auto)]
+
 ghost use Rattle.std.specs.Prelude.{◌≡◌};
 ghost use Rattle.octets.specs.Octets.{patch};
 ghost use Rattle.walk_missing.specs.Row.{told};

@@ -1,5 +1,7 @@
 // Lookups and additions in lent slots, across the boundary. The calls pass the slots on; what they decide, they ask of functions
 // by value.
+#![tactic(auto)]
+
 mod add;
 mod find;
 mod given;
@@ -10,14 +12,14 @@ use peers_entry::Peer;
 
 // What a lookup and an addition return: no id where they have refused.
 #[repr(C)]
-#[derive(Drop)]
+#[derive(Clone, Copy)]
 pub struct Found {
     pub refusal: u32,
     pub id: u32,
 }
 
 // What a lookup is asked: how many slots are in use, and the family and the octets of an address.
-#[derive(Drop)]
+#[derive(Clone, Copy)]
 pub(crate) struct Key {
     count: usize,
     v6: bool,
@@ -25,7 +27,7 @@ pub(crate) struct Key {
 }
 
 // What an addition is asked: how many slots are in use, and the peer.
-#[derive(Drop)]
+#[derive(Clone, Copy)]
 pub(crate) struct Fresh {
     count: usize,
     peer: Peer,

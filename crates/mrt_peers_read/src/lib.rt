@@ -1,4 +1,6 @@
 // Peer tables read across the boundary: the check of a body, and the body in lent slots.
+#![tactic(auto)]
+
 ghost use Rattle.std.specs.Prelude.{◌≡◌};
 ghost use Rattle.peers_table.specs.Table.{check_peers};
 ghost use Rattle.mrt_peers_read.specs.Tables.{table_out};

@@ -1,5 +1,7 @@
 // Records of a walk across the boundary, many by one call. Apart from the walk: the judgement then has one caller, which the
 // compiler takes it into, so that no record goes through memory but the lent places.
+#![tactic(auto)]
+
 ghost use Rattle.std.specs.Prelude.{◌≡◌, ◌/◌, length};
 ghost use Rattle.mrt_lent.specs.Rows.{rows_from, rows_out};
 ghost use Rattle.mrt_records.specs.Records.{record_at, records_out};
@@ -8,7 +10,7 @@ use mrt_lent::Handed;
 use walk_judge::Verdict;
 
 // Where the records that are handed out end, and how many they are.
-#[derive(Drop)]
+#[derive(Clone, Copy)]
 struct Taken {
     count: u64,
     next: usize,

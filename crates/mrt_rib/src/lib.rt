@@ -1,4 +1,6 @@
 // RIB bodies across the boundary, read: the head, and how old a route is.
+#![tactic(auto)]
+
 ghost use Rattle.std.specs.Prelude.{◌≡◌};
 ghost use Rattle.rib_head.specs.Age.{age_of};
 ghost use Rattle.rib_read.specs.Rib.{rib_of};

@@ -1,5 +1,7 @@
 // RIB bodies across the boundary, built entry by entry. Apart from the other writers: the push is then the one caller of what it
 // calls, which the compiler takes in, so that no builder goes through memory.
+#![tactic(auto)]
+
 ghost use Rattle.std.specs.Prelude.{◌≡◌};
 ghost use Rattle.rib_add.specs.Add.{open_of};
 ghost use Rattle.mrt_rib_build.specs.Build.{opened_out, push_out};

@@ -1,4 +1,6 @@
 // The entries of RIB bodies across the boundary, by number and by a cursor.
+#![tactic(auto)]
+
 ghost use Rattle.std.specs.Prelude.{◌≡◌};
 ghost use Rattle.rib_entries.specs.Entry.{entry_of, first_of, next_of};
 ghost use Rattle.mrt_rib_cursor.specs.Entries.{entry_out, placed_out, step_out};

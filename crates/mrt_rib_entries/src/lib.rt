@@ -1,5 +1,7 @@
 // Entries of a RIB body across the boundary, many by one call. Apart from the other reading: the step of the cursor then has one
 // caller, which the compiler takes it into, so that no entry goes through memory but the lent places.
+#![tactic(auto)]
+
 ghost use Rattle.std.specs.Prelude.{◌≡◌, ◌/◌, length};
 ghost use Rattle.mrt_lent.specs.Rows.{rows_from, rows_out};
 ghost use Rattle.mrt_rib_entries.specs.Entries.{entries_out, entry_at};
@@ -8,7 +10,7 @@ use mrt_lent::Handed;
 use rib_entries::{Cursor, NextAnswer};
 
 // How many entries are handed out, and the cursor after them.
-#[derive(Drop)]
+#[derive(Clone, Copy)]
 struct Taken {
     count: u64,
     next: Cursor,

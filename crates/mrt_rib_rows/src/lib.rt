@@ -1,5 +1,7 @@
 // RIB entries across the boundary, pushed many by one call. Apart from the other writing: the push then has one caller, which the
 // compiler takes it into.
+#![tactic(auto)]
+
 ghost use Rattle.std.specs.Prelude.{◌≡◌};
 ghost use Rattle.mrt_rib_rows.specs.Rows.{rows_out};
 

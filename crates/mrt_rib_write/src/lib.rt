@@ -1,4 +1,6 @@
 // RIB bodies across the boundary, written.
+#![tactic(auto)]
+
 ghost use Rattle.std.specs.Prelude.{◌≡◌};
 ghost use Rattle.rib_add.specs.Add.{add_entry};
 ghost use Rattle.mrt_lent.specs.Writer.{written_out};

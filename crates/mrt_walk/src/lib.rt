@@ -1,4 +1,6 @@
 // The walk across the boundary.
+#![tactic(auto)]
+
 ghost use Rattle.std.specs.Prelude.{◌≡◌, ◌≤◌, length};
 ghost use Rattle.walk_step.specs.Answers.{said};
 ghost use Rattle.rules.specs.Ask.{over};

@@ -1,7 +1,7 @@
 -- Big-endian numbers over their width: two numbers side by side, numbers in a part, past the end, equal numbers, and there and
 -- back.
 use Prim.Native.Nat.{ℕ, zero, suc, ◌+◌, ◌*◌, ◌/◌, ◌%◌, ◌^◌, ◌<◌, ◌≤◌}
-use mathlib.Core.Path.{◌≡◌, refl, sym, ◌∙◌, ap}
+use mathlib.Core.Path.{◌≡◌, refl, sym, ◌∙◌, ap, subst}
 use mathlib.Core.List.{List, [], ◌∷◌, ◌++◌, append_assoc, append-nil}
 use mathlib.Core.Bool.{Bool, true, false, ◌&&◌}
 use native.Mathlib.Nat.{add-zero, add-suc, add_assoc, mul_assoc, mul-one, pow-suc}
@@ -100,11 +100,12 @@ unfolding be_at bytes_of
 be_of_bytes zero v p q h = omega arith
 be_of_bytes (suc n) v p q h =
     let b : List ℕ = bytes_of n (v / 256) in
-    let e : p ++ (b ++ (v % 256 ∷ [])) ++ q ≡ p ++ b ++ (v % 256 ∷ q) =
+    let e : p ++ bytes_of (suc n) v ++ q ≡ p ++ b ++ (v % 256 ∷ q) =
     ap (λ (l : List ℕ). l ++ q) (sym (append_assoc p b (v % 256 ∷ []))) ∙ append_assoc (p ++ b) (v % 256 ∷ []) q in
     let l : length (p ++ b) ≡ length p + n = length-append p b ∙ ap (λ (k : ℕ). length p + k) (length_bytes n (v / 256)) in
     let k : v / 256 < 256 ^ n = (div-lt_iff_lt-mul {k = 256} {x = v} {y = 256 ^ n} (omega arith)).1 (rw pow-suc at h) in
-    rw (e, be_of_bytes n (v / 256) p (v % 256 ∷ q) k, get_or_at (p ++ b) (v % 256) q 0 (length p + n) l) (div-add-mod' v 256)
+    subst (λ (s : List ℕ). be_at s (length p) (suc n) ≡ v) (sym e)
+    (rw (be_of_bytes n (v / 256) p (v % 256 ∷ q) k, get_or_at (p ++ b) (v % 256) q 0 (length p + n) l) (div-add-mod' v 256))
 
 -- the same where what stands after the number is grouped with it
 pub be_of_field : (p q : List ℕ) (at n v : ℕ) → length p ≡ at → v < 256 ^ n → v ≡ be_at (p ++ (bytes_of n v ++ q)) at n

@@ -1,5 +1,7 @@
 // Big-endian numbers in lent octets. Where a slice ends, octets read as 0 and stores are dropped, so
 // that every call answers; a caller that has tested the length pays for no second test.
+#![tactic(auto)]
+
 ghost use Rattle.std.specs.Prelude.{◌≡◌, [], ◌∷◌, get_or};
 ghost use Rattle.octets.specs.Octets.{be_at, bytes_of, patch};
 

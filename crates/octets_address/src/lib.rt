@@ -1,5 +1,7 @@
 // Addresses of four or sixteen octets, in lent octets and in sixteen octets of their own. One that does not fit is not read and not
 // written, so that every call answers.
+#![tactic(auto)]
+
 ghost use Rattle.std.specs.Prelude.{◌≡◌, ◌≤◌, ◌+◌, length};
 ghost use Rattle.octets.specs.Octets.{patch};
 ghost use Rattle.octets_address.specs.Address.{address_in, address_size, octets_at, put_address, size_of};

@@ -1,4 +1,6 @@
 // Puts every question of the lists that the arguments name, and holds each answer to the oracle's.
+#![tactic(auto)]
+
 mod ask;
 mod dumps;
 mod headers;

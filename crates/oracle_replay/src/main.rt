@@ -1,4 +1,6 @@
 // Lists every stream that an argument names: NAME.mrt, held to the oracle's NAME.listing.
+#![tactic(auto)]
+
 ghost use Rattle.std.specs.Prelude.{◌≤◌};
 
 use libc::STDOUT_FILENO;

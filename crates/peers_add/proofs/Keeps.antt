@@ -47,7 +47,7 @@ module _ (l : List Peer) (count : ℕ) (p : Peer) where
       by_tests false w false k true u d v = not_taken 10 (λ z. omega arith)
       by_tests false w false k false u true v = not_taken 9 (λ z. omega arith)
       by_tests false w false k false u false v =
-          new ((look_up_highest l count p).other-lost (eqb-false _ _ k)) w (leb-false _ _ u) (leb-false _ _ v)
+          new ((look_up_highest l count p).other_lost (eqb-false _ _ k)) w (leb-false _ _ u) (leb-false _ _ v)
 
   -- the first slots, and every other than the new one, keep their peers
   grown_kept : (j : ℕ) → (j ≡ count → ⊥) → get_or grown j nobody ≡ get_or l j nobody

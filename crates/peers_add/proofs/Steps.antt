@@ -68,7 +68,7 @@ module _ (slots count : ℕ) where
       → Placed slots count (finding r) x
   place_unknown why x h new l p e k =
       let f : look_up l count p ≡ lost (number_of why) = sym k ∙ ap finding h in
-      new l p e (sym ((look_up_highest l count p).other-lost (rw f (number-not-zero why))))
+      new l p e (sym ((look_up_highest l count p).other_lost (rw f (number-not-zero why))))
 
 -- the slots after the call
 module _ (l : List Peer) (count : ℕ) (p : Peer) (r : Place) {f : Finding} (looked : f ≡ look_up l count p)

@@ -1,4 +1,6 @@
 // One peer of a PEER_INDEX_TABLE (RFC 6396, 4.3.1).
+#![tactic(auto)]
+
 mod address;
 mod kind;
 mod record;
@@ -10,7 +12,7 @@ pub use record::{put_peer, read_peer};
 
 // A peer, as the slots hold it.
 #[repr(C)]
-#[derive(Drop)]
+#[derive(Clone, Copy)]
 pub struct Peer {
     // The type octet: value 1 means an IPv6 address, value 2 an AS of four octets.
     pub kind: u8,
@@ -21,7 +23,7 @@ pub struct Peer {
 }
 
 // What reading one peer answers.
-#[derive(Drop)]
+#[derive(Clone, Copy)]
 pub struct PeerRead {
     pub outcome: Outcome,
     pub peer: Peer,

@@ -39,7 +39,7 @@ module _ {P Q : ℕ → Type 0} (same : (j : ℕ) → P j ↔ Q j) {slots count 
   reworded : {id : ℕ} → Highest P slots count id → Highest Q slots count id
   reworded {id} h =
       record {
-        slots_enough = h.slots-enough;
+        slots_enough = h.slots_enough;
         count_small = h.count_small;
         in_use_lem = h.in_use;
         holds = (same id).0 h.holds;
@@ -57,7 +57,7 @@ exactly_reworded {P} {Q} same e =
       found-highest = λ id. (λ q. reworded same ((e.found-highest id).0 q), λ h. (e.found-highest id).1 (reworded back h));
       lost-none = (λ q. none_reworded same (e.lost-none.0 q), λ h. e.lost-none.1 (none_reworded back h));
       zero-found = e.zero-found;
-      other_lost = e.other-lost;
+      other_lost = e.other_lost;
     }
 
 module _ (l : List Peer) (key : Peer) where
@@ -94,7 +94,7 @@ module _ {Holds : ℕ → Type 0} {slots count : ℕ} where
       record {
         found-highest = λ id. (
           λ q. absurd (let z : ◌≡◌ {A = ℕ} 8 0 = ap (λ (f : Finding). f.number) q in omega arith),
-          λ h. absurd (n h.slots-enough h.count_small id h.in_use h.holds),
+          λ h. absurd (n h.slots_enough h.count_small id h.in_use h.holds),
         );
         lost-none = (λ q. n, λ h. refl);
         zero-found = λ z. absurd (omega arith);
@@ -118,7 +118,7 @@ module _ {Holds : ℕ → Type 0} {slots count : ℕ} where
         );
         lost-none = (
           λ q. absurd (let z : ◌≡◌ {A = ℕ} 0 8 = ap (λ (f : Finding). f.number) q in omega arith),
-          λ n. absurd (n h.slots-enough h.count_small id h.in_use h.holds),
+          λ n. absurd (n h.slots_enough h.count_small id h.in_use h.holds),
         );
         zero-found = λ z. refl;
         other_lost = λ z. absurd (z refl);
@@ -149,7 +149,7 @@ module _ (l : List Peer) (count : ℕ) where
   pub found_right : (key : Peer) (id : ℕ) → look_up l count key ≡ found id → wrong_count (length l) count ≡ false
   found_right key id e =
       let h = ((look_up_highest key).found-highest id).0 e in
-      right (length l) count h.slots-enough h.count_small
+      right (length l) count h.slots_enough h.count_small
 
   -- THEOREM. The same by family and octets, with what it is to hold the address set out: the family is the asked one, and so are
   -- the 16 or 4 octets that it has.

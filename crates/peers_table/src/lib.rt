@@ -1,11 +1,13 @@
 // The check of a PEER_INDEX_TABLE's body (RFC 6396, 4.3.1).
+#![tactic(auto)]
+
 mod table;
 
 use answer::Refusal;
 pub use table::check_peers;
 
 // What the check of a body answers.
-#[derive(Drop)]
+#[derive(Clone, Copy)]
 pub enum TableAnswer {
     Table {
         collector: u32,

@@ -1,4 +1,6 @@
 // RIB bodies opened for more entries, and given one at their end (RFC 6396, 4.3.4; RFC 8050, 4).
+#![tactic(auto)]
+
 ghost use Rattle.std.specs.Prelude.{◌≡◌};
 ghost use Rattle.answer.specs.Writing.{wrote};
 ghost use Rattle.rib_add.specs.Add.{open_values, open_of, add_entry};

@@ -1,10 +1,12 @@
 // The entries of a RIB body (RFC 6396, 4.3.4; RFC 8050, 4), by number and by a cursor. Attributes stay octets of the body.
+#![tactic(auto)]
+
 mod entries;
 
 use answer::Refusal;
 pub use entries::{after_entries, entry_at, first_entry, next_entry, pass_entries};
 
-#[derive(Drop)]
+#[derive(Clone, Copy)]
 pub struct Entry {
     pub peer: u16,
     pub originated: u32,
@@ -16,25 +18,25 @@ pub struct Entry {
 }
 
 // Where the next entry starts, and how many entries are left from there on.
-#[derive(Drop)]
+#[derive(Clone, Copy)]
 pub struct Cursor {
     pub at: usize,
     pub left: u16,
 }
 
-#[derive(Drop)]
+#[derive(Clone, Copy)]
 pub enum EntryAnswer {
     Read(Entry),
     Refused(Refusal),
 }
 
-#[derive(Drop)]
+#[derive(Clone, Copy)]
 pub enum CursorAnswer {
     At(Cursor),
     Refused(Refusal),
 }
 
-#[derive(Drop)]
+#[derive(Clone, Copy)]
 pub enum NextAnswer {
     Entry { entry: Entry, cursor: Cursor },
     End,

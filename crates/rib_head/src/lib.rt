@@ -1,4 +1,6 @@
 // What decides how a RIB body of TABLE_DUMP_V2 is read (RFC 6396, 4.3.2; RFC 8050, 4): its subtype, the head, the prefix bits.
+#![tactic(auto)]
+
 mod head;
 mod prefix;
 mod times;
@@ -8,7 +10,7 @@ pub use prefix::clear_after;
 pub use times::age;
 
 // What a subtype decides: whether it is carried, the most prefix bits, how many octets a path number takes.
-#[derive(Drop)]
+#[derive(Clone, Copy)]
 pub struct Layout {
     pub carried: bool,
     pub most: u8,

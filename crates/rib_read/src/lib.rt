@@ -1,10 +1,12 @@
 // RIB records of TABLE_DUMP_V2, read (RFC 6396, 4.3.2; RFC 8050, 4). Attributes stay octets of the body.
+#![tactic(auto)]
+
 mod body;
 
 use answer::Outcome;
 pub use body::read_rib;
 
-#[derive(Drop)]
+#[derive(Clone, Copy)]
 pub struct Rib {
     pub outcome: Outcome,
     pub sequence: u32,

@@ -1,4 +1,6 @@
 // RIB bodies in lent output, given entries where a builder stands, one or many by a call (RFC 6396, 4.3.4; RFC 8050, 4).
+#![tactic(auto)]
+
 mod push;
 mod rows;
 
@@ -6,7 +8,7 @@ use answer::Refusal;
 pub use push::push_entry;
 pub use rows::push_entries;
 
-#[derive(Drop)]
+#[derive(Clone, Copy)]
 pub struct NewEntry {
     pub peer: u16,
     pub originated: u32,
@@ -15,20 +17,20 @@ pub struct NewEntry {
 }
 
 // A body that can be given entries: where it ends, where its entry count stands, and that count.
-#[derive(Drop)]
+#[derive(Clone, Copy)]
 pub struct Builder {
     pub len: usize,
     pub at: usize,
     pub count: u16,
 }
 
-#[derive(Drop)]
+#[derive(Clone, Copy)]
 pub enum BuilderAnswer {
     Open(Builder),
     Refused(Refusal),
 }
 
-#[derive(Drop)]
+#[derive(Clone, Copy)]
 pub enum RowsAnswer {
     // How many rows went in, and the builder after them.
     Pushed { builder: Builder, rows: u16 },

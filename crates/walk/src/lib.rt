@@ -1,9 +1,11 @@
 // The walk's own state. What a walk is over any way to judge a record is defined in specs/ and proved in proofs/.
+#![tactic(auto)]
+
 ghost use Rattle.std.specs.Prelude.{◌≡◌};
 ghost use Rattle.walk.specs.Step.{fresh_walk};
 
 // Where a walk stands in its stream, and whether it has given its last answer.
-#[derive(Drop)]
+#[derive(Clone, Copy)]
 pub struct Walk {
     pub position: usize,
     pub finished: bool,

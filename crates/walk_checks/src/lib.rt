@@ -1,4 +1,6 @@
 // The body checks that the port adds: type 5 by its length alone, types 16 and 17 by the envelope of a BGP message.
+#![tactic(auto)]
+
 mod bgp;
 mod bgp4mp;
 mod legacy;
@@ -7,7 +9,7 @@ pub use bgp4mp::{check_bgp4mp, is_carried, is_state_change};
 pub use legacy::check_legacy;
 
 // The least and the most that a length may be; a low above the high lets nothing through.
-#[derive(Drop)]
+#[derive(Clone, Copy)]
 pub struct Bounds {
     pub low: u32,
     pub high: u32,

@@ -50,7 +50,7 @@ verdict_ok at b m f o = meets_cond (JudgedOk at) (eqb f.head.number 0) b m _ _ w
         let k : ℕ = f.head.kind in
         let u : ℕ = f.head.subtype in
         let n : ℕ = f.head.stored in
-        (o.room z, λ l. by_check (check k u n l) (check-number u l k n (o.known-type z)) _ refl z)
+        (o.room z, λ l. by_check (check k u n l) (check-number u l k n (o.known_type z)) _ refl z)
 
     none : eqb f.head.number 0 ≡ false → JudgedOk at b m (cut f.head.number)
     none e = let z = eqb-false f.head.number 0 e in let m = o.most in (omega arith, m, o.all_there)

@@ -1,4 +1,6 @@
 // The judgement of one record.
+#![tactic(auto)]
+
 mod body;
 mod record;
 
@@ -7,7 +9,7 @@ pub use body::check_body;
 use header::{CommonHeader, WireLength};
 pub use record::{judge_at, judge_record};
 
-#[derive(Drop)]
+#[derive(Clone, Copy)]
 pub enum JudgeAnswer {
     // A record that passes all checks: where it starts, where its body starts, and where both end.
     Record {
@@ -21,7 +23,7 @@ pub enum JudgeAnswer {
 }
 
 // What a walk asks of an offset.
-#[derive(Drop)]
+#[derive(Clone, Copy)]
 pub enum Verdict {
     // A record that passes all checks.
     Fit {

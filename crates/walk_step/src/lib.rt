@@ -1,4 +1,6 @@
 // The recovering walk: records handed out one by one, and gaps where none can be taken.
+#![tactic(auto)]
+
 mod aligned;
 mod call;
 
@@ -7,7 +9,7 @@ pub use call::{next, step};
 use header::{CommonHeader, WireLength};
 use walk::Walk;
 
-#[derive(Drop)]
+#[derive(Clone, Copy)]
 pub enum WalkAnswer {
     // A record that passes all checks.
     Record {
@@ -37,14 +39,14 @@ pub enum WalkAnswer {
 }
 
 // The walk after a call, and the call's answer.
-#[derive(Drop)]
+#[derive(Clone, Copy)]
 pub struct Stepped {
     pub walk: Walk,
     pub answer: WalkAnswer,
 }
 
 // How many records have passed from a record's own end on, or that one has not.
-#[derive(Drop)]
+#[derive(Clone, Copy)]
 pub(crate) enum Tried {
     Passed(u8),
     Failed,

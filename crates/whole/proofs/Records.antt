@@ -53,7 +53,7 @@ module _ (pre : List ℕ) (r : Whole) (rest s : List ℕ) (e : s ≡ pre ++ reco
         let d : drop p s ≡ header_octets r.header ++ (r.body ++ rest) =
         ap (drop p) q ∙ drop_at pre (header_octets r.header ++ (r.body ++ rest)) p refl in
         rw (le-ltb (length s) p (omega (arith, long_enough)), d)
-        (read_octets r.header ok.widths (r.body ++ rest) ok.known-type ok.fits)
+        (read_octets r.header ok.widths (r.body ++ rest) ok.known_type ok.fits)
 
     pub framed_there : placed p r ≡ frame_at s p
     framed_there =

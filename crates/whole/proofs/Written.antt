@@ -85,7 +85,7 @@ module _ (o : List ℕ) (h : CommonHeader) (b : Writing) (fits : Matches o h b) 
       let a = write_accepted h o fits.accepted in
       record {
         widths = fits.widths;
-        known_type = a.known-type;
+        known_type = a.known_type;
         fits = a.fits;
         long = fits.full ∙ sym fits.stored;
         passes = rw fits.stored fits.passes;

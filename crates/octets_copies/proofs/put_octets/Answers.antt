@@ -1,0 +1,16 @@
+use mathlib.Core.Path.{refl}
+use native.Mathlib.Nat.{le_of_eq}
+use Rattle.octets.proofs.Stores.{patch_beyond, copy_done}
+use borrow.Author.Rules.{rules}
+use Rattle.octets_copies.proofs.put_octets.Goals as goal
+
+pub returns-then-n-at : goal.returns-then-n-at
+returns-then-n-at c = patch_beyond _ _ _ c.if-n-at.true
+
+pub returns-then-m-lt16 : goal.returns-then-m-lt16
+returns-then-m-lt16 c =
+    copy_done _ _ _ (le_of_eq refl) (le_of_eq refl) c.least-m.ensures c.put_few.ensures
+
+pub returns : goal.returns
+returns c =
+    copy_done _ _ _ (le_of_eq refl) (le_of_eq refl) c.least-m.ensures c.put_blocks.ensures
