@@ -19,7 +19,7 @@ use Rattle.peers_find.specs.Find.{Finding, found, lost, highest, look_up, find_p
 pub record Highest (Holds : ℕ → Type 0) (slots count id : ℕ) : Type 0 where
   pub slots_enough : count ≤ slots
   pub count_small : count ≤ 65535
-  pub in_use_lem : id < count
+  pub used : id < count
   pub holds : Holds id
   pub none-later : (j : ℕ) → id < j → j < count → Holds j → ⊥
 
@@ -41,7 +41,7 @@ module _ {P Q : ℕ → Type 0} (same : (j : ℕ) → P j ↔ Q j) {slots count 
       record {
         slots_enough = h.slots_enough;
         count_small = h.count_small;
-        in_use_lem = h.in_use;
+        used = h.used;
         holds = (same id).0 h.holds;
         none-later = λ j l u q. h.none-later j l u ((same j).1 q);
       }
@@ -94,7 +94,7 @@ module _ {Holds : ℕ → Type 0} {slots count : ℕ} where
       record {
         found-highest = λ id. (
           λ q. absurd (let z : ◌≡◌ {A = ℕ} 8 0 = ap (λ (f : Finding). f.number) q in omega arith),
-          λ h. absurd (n h.slots_enough h.count_small id h.in_use h.holds),
+          λ h. absurd (n h.slots_enough h.count_small id h.used h.holds),
         );
         lost-none = (λ q. n, λ h. refl);
         zero-found = λ z. absurd (omega arith);
@@ -106,7 +106,7 @@ module _ {Holds : ℕ → Type 0} {slots count : ℕ} where
   one-highest {i} {j} h k = by_test (ltb j i) refl
     where
       by_test : (b : Bool) → ltb j i ≡ b → i ≤ j
-      by_test true b = absurd (k.none-later i (ltb-true j i b) h.in_use h.holds)
+      by_test true b = absurd (k.none-later i (ltb-true j i b) h.used h.holds)
       by_test false b = ltb-false j i b
 
   exactly_found : {id : ℕ} → Highest Holds slots count id → Exactly Holds slots count (found id)
@@ -118,7 +118,7 @@ module _ {Holds : ℕ → Type 0} {slots count : ℕ} where
         );
         lost-none = (
           λ q. absurd (let z : ◌≡◌ {A = ℕ} 0 8 = ap (λ (f : Finding). f.number) q in omega arith),
-          λ n. absurd (n h.slots_enough h.count_small id h.in_use h.holds),
+          λ n. absurd (n h.slots_enough h.count_small id h.used h.holds),
         );
         zero-found = λ z. refl;
         other_lost = λ z. absurd (z refl);
@@ -142,7 +142,7 @@ module _ (l : List Peer) (count : ℕ) where
     where
       by_sought : count ≤ length l → count ≤ 65535 → (f : Finding) → Sought l key count f → Exactly (Holds l key) (length l) count f
       by_sought h k f (there id u t g) =
-          exactly_found (record { slots_enough = h; count_small = k; in_use_lem = u; holds = t; none-later = g })
+          exactly_found (record { slots_enough = h; count_small = k; used = u; holds = t; none-later = g })
       by_sought h k f (nowhere g) = exactly_none (λ u v. g)
 
   -- a count under which an address is found is right

@@ -50,3 +50,6 @@ module _ (slots count : ℕ) where
 
   pub used_le : {m : ℕ} → m ≡ in_use slots count → m ≤ slots
   used_le e = used-either (λ w z. omega arith) (λ w z h k. omega arith)
+
+  pub used_small : {m : ℕ} → m ≡ in_use slots count → m ≤ 65535
+  used_small e = used-either (λ w z. omega arith) (λ w z h k. omega arith)

@@ -245,6 +245,10 @@ module _ (judge : ℕ → Ask Judged) (candidate : ℕ → Ask Candidate) where
     by_last : (p a : ℕ) (x : Stepped) → Call judge candidate s window k p x → p ≤ length s → Last a x.answer
         → (x.walk ≡ finished_at a) × (call judge candidate s window k (finished_at a) ≡ stopped a (end a))
     by_last p a x (ends q) l over_last = (refl, sym (call_finished judge candidate s window k (finished_at p) l refl))
+    by_last p a _ (fits f _) l x7 = elim x7 [ ]
+    by_last p a _ (own r e m _ _) l x10 = elim x10 [ ]
+    by_last p a _ (takes r o v _ _ _) l x13 = elim x13 [ ]
+    by_last p a _ (none r _ _ _ _ _) l x18 = elim x18 [ ]
     by_last p a x (full r u i q t) l shut = (refl, sym (call_finished judge candidate s window k (finished_at p) l refl))
 
     -- THEOREM. Where a call gives the last answer, the walk is finished in its place, and every call after it answers the end

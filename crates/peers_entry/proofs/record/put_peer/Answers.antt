@@ -1,0 +1,37 @@
+use mathlib.Core.Path.{ap, ◌∙◌}
+use lib.ListN.{length}
+use native.Mathlib.Omega.{arith}
+use Rattle.octets.proofs.Stores.{length-patch}
+use Rattle.octets_address.proofs.Addresses.{length_put}
+use Rattle.peers_entry.specs.Peer.{address_size}
+use Rattle.peers_entry.proofs.Sizes.{address_le, size_is}
+use Rattle.peers_entry.proofs.Records.{put_small, put_late, put_whole}
+use borrow.Author.Rules.{rules}
+use Rattle.peers_entry.proofs.record.put_peer.Goals as goal
+
+pub returns-then-n-size : goal.returns-then-n-size
+returns-then-n-size c = record { answer = put_small _ _ _ c.peer_size-size.ensures.answer c.if-n-size.true }
+
+pub returns-then-n-size-2 : goal.returns-then-n-size-2
+returns-then-n-size-2 c = record { answer = put_late _ _ _ c.peer_size-size.ensures.answer c.if-n-size.false c.if-n-size-2.true }
+
+pub overflow_add-front-2 : goal.overflow_add-front-2
+overflow_add-front-2 c =
+    let kind = c.args.p.kind in
+    omega (arith, address_le kind, size_is kind)
+
+pub put_as-requires : goal.put_as-requires
+put_as-requires c =
+    let start = c.args in
+    let one = ap length c.put_octet.ensures ∙ length-patch _ _ _ in
+    let two = ap length c.store32.ensures ∙ length-patch _ _ _ in
+    let three = ap length c.put_address.ensures.answer ∙ length_put _ _ _ _ in
+    omega (arith, size_is start.p.kind, one, two, three)
+
+pub returns : goal.returns
+unfolding address_size
+returns c = record {
+  answer =
+    put_whole _ _ _ c.peer_size-size.ensures.answer c.if-n-size.false c.if-n-size-2.false
+    c.address_size-length.ensures c.put_octet.ensures c.store32.ensures
+    c.put_address.ensures.answer c.put_as.ensures }

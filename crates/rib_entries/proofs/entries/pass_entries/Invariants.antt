@@ -1,0 +1,14 @@
+use mathlib.Core.Path.{◌≡◌, refl, sym, ◌∙◌}
+use native.Mathlib.Omega.{arith}
+use borrow.Author.Rules.{rules}
+use Rattle.rib_entries.specs.Entry.{passed}
+use Rattle.rib_head.proofs.Heads.{path_of}
+use Rattle.rib_head.proofs.Layouts.{path_sized}
+use Rattle.rib_entries.proofs.Passing.{passed_read, passed_sized, passed-unread, passed_none}
+use Rattle.rib_entries.proofs.entries.pass_entries.Given as goal
+
+abbrev pub invariant-loop-left : goal.invariant-loop-left
+invariant-loop-left l = passed l.l.path l.body l.initial.at l.initial.left ≡ passed l.l.path l.body l.at l.left
+
+abbrev pub decreases-loop-left : goal.decreases-loop-left
+decreases-loop-left l = l.left
