@@ -1,0 +1,10 @@
+use Rattle.std.proofs.Common.{true, ◌∙◌, rules}
+use Rattle.walk_missing.proofs.Rows.{row_short, row-counted}
+use Rattle.walk_missing.proofs.row.count_dump.Goals as goal
+
+pub returns-then-body-lt4 : goal.returns-then-body-lt4
+returns-then-body-lt4 c = c.untold.ensures ∙ row_short true _ _ c.if-body-lt4.true
+
+pub returns : goal.returns
+returns c =
+    row-counted true _ _ c.if-body-lt4.false c.be16-later.ensures c.since-missing.ensures
