@@ -5,17 +5,12 @@ use Rattle.rib_add.proofs.Opened.{add_refused, add_open}
 use Rattle.rib_add.proofs.Answers.{add_beyond, add_unmet}
 use Rattle.rib_add.proofs.add_entry.Goals as goal
 
-open-rib-requires c κs = search rules
-
 pub returns-then-out-len : goal.returns-then-out-len
 returns-then-out-len c = record { answer = add_beyond _ _ _ _ _ c.if-out-len.true }
 
 pub slice_bounds-open_rib-end-2 : goal.slice_bounds-open_rib-end-2
 slice_bounds-open_rib-end-2 c =
     sym (length-take-le c.args.len c.args.out.now c.if-out-len.false)
-
-pub open_rib-requires : goal.open_rib-requires
-open_rib-requires c =
 
 pub returns-in-Refused : goal.returns-in-Refused
 returns-in-Refused c = record { answer = add_unmet _ _ _ _ _ c.if-out-len.false _ c.open_rib.ensures.answer c.in-Refused.is }

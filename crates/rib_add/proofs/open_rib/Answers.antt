@@ -4,21 +4,6 @@ use borrow.Author.Rules.{rules}
 use Rattle.rib_add.proofs.Answers.{open_unmet, open_left, open_over, open_met}
 use Rattle.rib_add.proofs.open_rib.Goals as goal
 
-open-rib-spec =
-    tie.close
-    (tie.spec
-    after-entries-requires
-    enum-known-r
-    enum-known-c
-    returns
-    returns-2
-    octet-requires
-    prefix-size-requires
-    add_at
-    be16-requires
-    returns-3
-    returns-4)
-
 pub returns-then-c-ne0 : goal.returns-then-c-ne0
 returns-then-c-ne0 c = record { answer = open_left _ _ _ c.after_entries.ensures.answer c.in-At.is c.if-c-ne0.true }
 

@@ -15,14 +15,10 @@ pub returns-in-13 : goal.returns-in-13
 returns-in-13 c = record { answer = c.check_table_dump_v2.ensures ∙ check-dump_v2 _ _ _ _ c.in-13.is }
 
 pub returns-in-16 : goal.returns-in-16
-returns-in-16 c = record { answer = c.check_bgp4mp.ensures.answer ∙ check-message _ _ _ _ c.if-kind-lt16.false c.if-kind-lt18.true }
+returns-in-16 c = record { answer = c.check_bgp4mp.ensures.answer ∙ check-message _ _ _ _ (omega arith) (omega arith) }
 
 pub returns-in_default : goal.returns-in_default
 returns-in_default c = record {
   answer =
-    let rest = c.in-5.rest in
     c.refuse_type.ensures
-    ∙ ⊎_elim
-    (λ w. check-rest _ _ _ _ rest.0.0.1 rest.0.1 rest.1 (λ e. omega arith) (λ e. omega arith))
-    (λ w. check-rest _ _ _ _ rest.0.0.1 rest.0.1 rest.1 (λ e. omega arith) (λ e. omega arith))
-    c.if-kind-lt16.branch }
+    ∙ check-rest _ _ _ _ (λ e. omega arith) (λ e. omega arith) (λ e. omega arith) (λ e. omega arith) (λ e. omega arith) }
