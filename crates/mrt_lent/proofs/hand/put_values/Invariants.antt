@@ -1,0 +1,16 @@
+use Prim.Native.Nat.{◌≤◌, ◌-◌, min}
+use mathlib.Core.Path.{◌≡◌, ◌∙◌, refl, ap}
+use mathlib.Core.Logic.{⊎_elim}
+use lib.ListN.{length, take}
+use native.Mathlib.Omega.{arith}
+use Rattle.octets.specs.Octets.{patch}
+use Rattle.octets.proofs.Stores.{copy_done, length-patch}
+use Rattle.mrt_lent.proofs.Handing.{front_turn}
+use Rattle.mrt_lent.proofs.hand.put_values.Given as goal
+
+abbrev pub invariant-loop-i : goal.invariant-loop-i
+invariant-loop-i l =
+    (l.i ≤ l.m) × (l.m ≡ min (length l.initial.out - 0) (length l.values)) × (l.out ≡ patch l.initial.out 0 (take l.i l.values))
+
+abbrev pub decreases-loop-i : goal.decreases-loop-i
+decreases-loop-i l = l.m - l.i
