@@ -1,0 +1,12 @@
+use Prim.Native.Nat.{◌≤◌, ◌-◌}
+use mathlib.Core.Path.{◌≡◌}
+use native.Mathlib.Omega.{arith}
+use Rattle.walk_scan.specs.Sight.{Clear}
+use Rattle.walk_scan.proofs.Scans.{clear_none, clear_one}
+use Rattle.walk_scan.proofs.sight.marked.Given as goal
+
+abbrev pub invariant-loop-i : goal.invariant-loop-i
+invariant-loop-i l = (l.i ≤ 64) × (l.count ≤ l.i) × (l.count ≡ 0 → Clear l.s l.at l.i)
+
+abbrev pub decreases-loop-i : goal.decreases-loop-i
+decreases-loop-i l = 64 - l.i

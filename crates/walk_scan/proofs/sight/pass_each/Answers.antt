@@ -1,0 +1,33 @@
+use Prim.Native.Nat.{◌-◌, ◌≤◌}
+use native.Mathlib.Omega.{arith}
+use Rattle.walk_scan.specs.Sight.{Passed}
+use Rattle.walk_scan.proofs.Scans.{passed_none, passed-one}
+use Rattle.walk_scan.proofs.sight.pass_each.Goals as goal
+
+pub loop-d-init : goal.loop-d-init
+loop-d-init c = (omega arith, omega arith, passed_none _ _ _)
+
+pub overflow_add-d : goal.overflow_add-d
+overflow_add-d c = omega arith
+
+pub overflow_add-p : goal.overflow_add-p
+overflow_add-p c = omega arith
+
+pub mark_at-requires : goal.mark_at-requires
+mark_at-requires c = omega arith
+
+pub returns-then-mark_at-ne0 : goal.returns-then-mark_at-ne0
+returns-then-mark_at-ne0 c = c.loop-d.invariant
+
+pub overflow_add-d-in-loop-d : goal.overflow_add-d-in-loop-d
+overflow_add-d-in-loop-d c = omega arith
+
+pub loop-d-smaller : goal.loop-d-smaller
+loop-d-smaller c = omega arith
+
+pub loop-d-preserved : goal.loop-d-preserved
+loop-d-preserved c =
+    (omega arith, omega arith, passed-one _ _ _ _ c.loop-d.invariant.2 (c.mark_at.ensures.1 c.if-mark_at-ne0.false))
+
+pub returns : goal.returns
+returns c = c.loop-d.invariant
