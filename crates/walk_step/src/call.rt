@@ -2,7 +2,7 @@
 ghost use Rattle.std.specs.Prelude.{◌≡◌, ◌<◌, length};
 ghost use Rattle.answer.specs.Refusal.{number_of};
 ghost use Rattle.rules.specs.Ask.{over};
-ghost use Rattle.walk.specs.Step.{asked as asked_of, unfound as unfoundRule, scanned, own_end, moved, stopped, step as stepRule};
+ghost use Rattle.walk.specs.Step.{asked as asked_of, unfound as unfound_rule, scanned, own_end, moved, stopped, step as step_rule};
 ghost use Rattle.walk_judge.specs.Record.{judge_at};
 ghost use Rattle.walk_candidate.specs.Candidate.{candidate_at};
 ghost use Rattle.walk_step.specs.Answers.{said, stepped};
@@ -16,7 +16,7 @@ use walk_scan::Found;
 
 // The next answer of a walk over a whole stream, and the walk after it.
 pub fn step(s: &[u8], w: Walk, window: usize, asked: u8) -> Stepped
-    ensures answer { stepped result ≡ over s.now (stepRule judge_at candidate_at w window asked) }
+    ensures answer { stepped result ≡ over s.now (step_rule judge_at candidate_at w window asked) }
 {
     let n = s.len();
     let p = w.position;
@@ -56,7 +56,7 @@ pub fn step(s: &[u8], w: Walk, window: usize, asked: u8) -> Stepped
 // The same on a walk that is lent: it is moved by the call.
 pub fn next(s: &[u8], w: &mut Walk, window: usize, asked: u8) -> WalkAnswer
     ensures answer { record { walk = w.new; answer = said result }
-        ≡ over s.now (stepRule judge_at candidate_at w.old window asked) }
+        ≡ over s.now (step_rule judge_at candidate_at w.old window asked) }
 {
     let before = *w;
     let after = step(s, before, window, asked);
@@ -108,7 +108,7 @@ fn search(s: &[u8], p: usize, window: usize, asked: u8, refusal: Refusal) -> Ste
 // No offset in the window: the gap to the end where less than window + 6 octets are left, or else the refusal.
 fn unfound(s: &[u8], p: usize, window: usize, refusal: Refusal) -> Stepped
     requires { p < length s.now }
-    ensures { stepped result ≡ over s.now (unfoundRule p window (number_of refusal)) }
+    ensures { stepped result ≡ over s.now (unfound_rule p window (number_of refusal)) }
 {
     let n = s.len();
     let exhausted = WalkAnswer::Window {
