@@ -1,6 +1,6 @@
 // One record counted.
 ghost use Rattle.std.specs.Prelude.{◌≡◌, true, false};
-ghost use Rattle.walk_missing.specs.Row.{counted, fresh_counters, untold as untoldRule, count_row, count as countRule};
+ghost use Rattle.walk_missing.specs.Row.{counted, fresh_counters, untold as untold_rule, count_row, count as count_rule};
 
 use crate::turned::since;
 use crate::{Counted, Counters, Missing};
@@ -19,7 +19,7 @@ pub fn fresh() -> Counters
 
 // A record by its type, subtype and body: what is told of it, and the counters after it.
 pub fn count(c: Counters, kind: u16, subtype: u16, body: &[u8]) -> Counted
-    ensures answer { counted result ≡ countRule c kind subtype body.now }
+    ensures answer { counted result ≡ count_rule c kind subtype body.now }
 {
     if kind == 12 {
         return count_dump(c, body);
@@ -32,7 +32,7 @@ pub fn count(c: Counters, kind: u16, subtype: u16, body: &[u8]) -> Counted
 
 // Nothing is told of a record, whatever the counters are after it.
 fn untold(c: Counters) -> Counted
-    ensures { counted result ≡ untoldRule c }
+    ensures { counted result ≡ untold_rule c }
 {
     Counted {
         counters: c,
@@ -61,7 +61,7 @@ fn count_dump(c: Counters, body: &[u8]) -> Counted
 
 // A record of type 13. A peer table starts both counts afresh.
 fn count_table(c: Counters, subtype: u16, body: &[u8]) -> Counted
-    ensures { counted result ≡ countRule c 13 subtype body.now }
+    ensures { counted result ≡ count_rule c 13 subtype body.now }
 {
     if subtype == 1 {
         return untold(fresh());

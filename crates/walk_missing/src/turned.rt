@@ -1,6 +1,6 @@
 // Sequence numbers, which turn over at their width.
 ghost use Rattle.std.specs.Prelude.{◌≡◌, ◌^◌, ◌<◌};
-ghost use Rattle.walk_missing.specs.Turned.{width, apart as apartRule, since as sinceRule};
+ghost use Rattle.walk_missing.specs.Turned.{width, apart as apart_rule, since as since_rule};
 ghost use Rattle.walk_missing.specs.Row.{told};
 
 use crate::Missing;
@@ -8,7 +8,7 @@ use crate::Missing;
 // What is told of a number and the last one before it, if one was seen.
 pub(crate) fn since(narrow: bool, seen: bool, earlier: u32, later: u32) -> Missing
     requires { (earlier < 2 ^ width narrow) × (later < 2 ^ width narrow) }
-    ensures { told result ≡ sinceRule (width narrow) seen earlier later }
+    ensures { told result ≡ since_rule (width narrow) seen earlier later }
 {
     if !seen {
         return Missing::Nothing;
@@ -24,7 +24,7 @@ pub(crate) fn since(narrow: bool, seen: bool, earlier: u32, later: u32) -> Missi
 // The later number less the earlier one: of 16 bits where they are narrow, of 32 where they are not.
 fn apart(narrow: bool, earlier: u32, later: u32) -> u32
     requires { (earlier < 2 ^ width narrow) × (later < 2 ^ width narrow) }
-    ensures { result ≡ apartRule (width narrow) earlier later }
+    ensures { result ≡ apart_rule (width narrow) earlier later }
 {
     if narrow {
         return std::num::wrapping_sub_u16(later as u16, earlier as u16) as u32;

@@ -1,7 +1,7 @@
 // The scan for a place to take up again.
 ghost use Rattle.std.specs.Prelude.{◌≡◌, cond, eqb, suc, ◌+◌, ◌-◌, ◌<◌, ◌≤◌, min, length};
 ghost use Rattle.rules.specs.Ask.{over};
-ghost use Rattle.walk.specs.Step.{scan as scanRule};
+ghost use Rattle.walk.specs.Step.{scan as scan_rule};
 ghost use Rattle.walk.specs.Judged.{fails};
 ghost use Rattle.walk_candidate.specs.Candidate.{candidate_at};
 ghost use Rattle.walk_scan.specs.Sight.{sighted, Passed, Clear};
@@ -12,7 +12,7 @@ use walk_candidate::CandidateAnswer;
 // The first distance from p, up to the window, where a candidate stands with `more` straight after it. The first of a chain goes
 // through the same turn as the others: the test then has one caller, which the compiler takes it into.
 pub fn scan(s: &[u8], p: usize, window: usize, more: u8) -> Found
-    ensures answer { sighted result ≡ over s.now (scanRule candidate_at more (suc p) window) }
+    ensures answer { sighted result ≡ over s.now (scan_rule candidate_at more (suc p) window) }
 {
     let n = s.len();
     let last = reach(n, p, window);
