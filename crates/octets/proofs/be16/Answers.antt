@@ -1,6 +1,5 @@
 use mathlib.Core.Path.{sym, ◌∙◌}
 use Rattle.octets.proofs.Numbers.{be_beyond, be_halves, be_one}
-use borrow.Author.Rules.{rules}
 use Rattle.octets.proofs.be16.Goals as goal
 
 pub returns-then-s-at : goal.returns-then-s-at

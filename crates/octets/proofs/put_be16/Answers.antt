@@ -2,7 +2,6 @@ use mathlib.Core.List.{[], ◌∷◌}
 use Rattle.octets.specs.Octets.{bytes_of}
 use mathlib.Core.Path.{refl}
 use Rattle.octets.proofs.Stores.{patch_beyond, stores}
-use borrow.Author.Rules.{rules}
 use Rattle.octets.proofs.put_be16.Goals as goal
 
 pub returns-then-out-at : goal.returns-then-out-at

@@ -2,7 +2,6 @@ use Rattle.octets.specs.Octets.{patch}
 use mathlib.Core.Path.{◌∙◌, ap}
 use Rattle.octets.proofs.Numbers.{length_bytes, bytes_halves}
 use Rattle.octets.proofs.Stores.{patch_beyond, stores}
-use borrow.Author.Rules.{rules}
 use Rattle.octets.proofs.put_be32.Goals as goal
 
 pub returns-then-out-at : goal.returns-then-out-at

@@ -1,7 +1,6 @@
 use Rattle.octets.specs.Octets.{patch}
 use mathlib.Core.Path.{refl}
 use Rattle.octets.proofs.Stores.{patch_beyond}
-use borrow.Author.Rules.{rules}
 use Rattle.octets.proofs.put_octet.Goals as goal
 
 pub returns-then-at-out : goal.returns-then-at-out

@@ -1,8 +1,5 @@
 use native.Mathlib.Omega.{arith}
-use mathlib.Core.Path.{◌≡◌}
-use lib.ListN.{length}
 use Rattle.octets_address.proofs.Addresses.{size-le, put_none, put_done}
-use borrow.Author.Rules.{rules}
 use Rattle.octets_address.proofs.put_address.Goals as goal
 
 pub returns-then-n-size : goal.returns-then-n-size

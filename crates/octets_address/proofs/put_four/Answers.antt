@@ -1,5 +1,4 @@
 use Rattle.octets_address.proofs.Addresses.{four_stored}
-use borrow.Author.Rules.{rules}
 use Rattle.octets_address.proofs.put_four.Goals as goal
 
 pub returns : goal.returns

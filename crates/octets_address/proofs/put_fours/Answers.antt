@@ -4,7 +4,6 @@ use native.Mathlib.Omega.{arith}
 use Rattle.octets.proofs.Stores.{length-patch}
 use Rattle.octets_address.specs.Address.{size_of}
 use Rattle.octets_address.proofs.Addresses.{size-le, size-long, short_stored, long-stored}
-use borrow.Author.Rules.{rules}
 use mathlib.Core.Bool.{not}
 use Rattle.octets_address.proofs.put_fours.Goals as goal
 

@@ -1,6 +1,5 @@
 use native.Mathlib.Omega.{arith}
 use Rattle.octets_address.proofs.Addresses.{size-le, address_none, address_read}
-use borrow.Author.Rules.{rules}
 use Rattle.octets_address.proofs.read_address.Goals as goal
 
 pub returns-then-n-size : goal.returns-then-n-size
@@ -18,6 +17,7 @@ put_fours-requires c =
 pub returns : goal.returns
 returns c = record {
   answer =
-    let sized = c.size_of-size.ensures.answer in
-    let most = (size-le c.args.long).1 in
-    address_read _ _ _ most (omega (arith, sized, c.if-n-size.false, c.if-n-size-2.false)) c.put_fours.ensures }
+      let sized = c.size_of-size.ensures.answer in
+      let most = (size-le c.args.long).1 in
+      address_read _ _ _ most (omega (arith, sized, c.if-n-size.false, c.if-n-size-2.false)) c.put_fours.ensures;
+}

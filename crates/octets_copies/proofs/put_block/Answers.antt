@@ -1,5 +1,4 @@
 use Rattle.octets.proofs.Parts.{copy_block}
-use borrow.Author.Rules.{rules}
 use Rattle.octets_copies.proofs.put_block.Goals as goal
 
 pub returns : goal.returns

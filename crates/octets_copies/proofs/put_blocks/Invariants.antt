@@ -1,11 +1,7 @@
 use Prim.Native.Nat.{ℕ, ◌+◌, ◌-◌, ◌≤◌}
-use mathlib.Core.Path.{◌≡◌, refl, ◌∙◌, ap}
-use native.Mathlib.Omega.{arith}
-use lib.ListN.{length, take}
+use mathlib.Core.Path.{◌≡◌}
+use lib.ListN.{take}
 use Rattle.octets.specs.Octets.{patch}
-use Rattle.octets.proofs.Stores.{length-patch}
-use Rattle.octets.proofs.Parts.{copy_over}
-use borrow.Author.Rules.{rules}
 use Rattle.octets_copies.proofs.put_blocks.Given as goal
 
 abbrev pub invariant-loop-i : goal.invariant-loop-i

@@ -1,11 +1,10 @@
-use Prim.Native.Nat.{ℕ, ◌+◌, ◌-◌, min}
+use Prim.Native.Nat.{◌+◌}
 use mathlib.Core.Path.{◌≡◌, refl, ◌∙◌, ap}
 use native.Mathlib.Omega.{arith}
 use lib.ListN.{length}
-use Rattle.octets.specs.Octets.{patch, part}
+use Rattle.octets.specs.Octets.{patch}
 use Rattle.octets.proofs.Stores.{length-patch}
 use Rattle.octets.proofs.Parts.{block_over}
-use borrow.Author.Rules.{rules}
 use Rattle.octets_copies.proofs.put_eight.Goals as goal
 
 pub overflow_sub-last : goal.overflow_sub-last

@@ -1,11 +1,6 @@
-use Prim.Native.Nat.{ℕ, ◌+◌, ◌-◌, min}
-use mathlib.Core.Path.{◌≡◌, refl, ◌∙◌, ap}
-use native.Mathlib.Omega.{arith}
-use lib.ListN.{length}
+use Prim.Native.Nat.{ℕ, ◌-◌, min}
+use mathlib.Core.Path.{◌≡◌}
 use Rattle.octets.specs.Octets.{patch, part}
-use Rattle.octets.proofs.Stores.{length-patch}
-use Rattle.octets.proofs.Parts.{block_over}
-use borrow.Author.Rules.{rules}
 use Rattle.octets_copies.proofs.put_eight.Given as goal
 
 abbrev pub invariant-loop-i : goal.invariant-loop-i

@@ -1,7 +1,6 @@
 use mathlib.Core.Path.{refl}
 use native.Mathlib.Nat.{le_of_eq}
 use Rattle.octets.proofs.Stores.{patch_beyond, copy_done}
-use borrow.Author.Rules.{rules}
 use Rattle.octets_copies.proofs.put_octets.Goals as goal
 
 pub returns-then-n-at : goal.returns-then-n-at

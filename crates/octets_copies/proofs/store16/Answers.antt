@@ -3,11 +3,9 @@ use lib.ListN.{length}
 use mathlib.Core.Path.{refl}
 use native.Mathlib.Nat.{le_of_eq}
 use native.Mathlib.Omega.{arith}
-use borrow.Author.Tests.{not-false}
 use Rattle.octets.proofs.Numbers.{length_bytes}
 use Rattle.octets.proofs.Parts.{patch_lent}
 use Rattle.octets_copies.proofs.Rooms.{room_there}
-use borrow.Author.Rules.{rules}
 use Rattle.octets_copies.proofs.store16.Goals as goal
 
 pub overflow_add-end : goal.overflow_add-end

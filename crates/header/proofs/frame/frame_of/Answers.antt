@@ -2,7 +2,6 @@ use mathlib.Core.Path.{refl}
 use native.Mathlib.Omega.{arith}
 use Rattle.header.proofs.KnownTypes.{size_most}
 use Rattle.header.proofs.Framing.{of_beyond, of_cut, of_whole}
-use borrow.Author.Rules.{rules}
 use Rattle.header.proofs.frame.frame_of.Goals as goal
 
 pub returns-then-n-at : goal.returns-then-n-at

@@ -1,6 +1,5 @@
 use mathlib.Core.Path.{sym, ◌∙◌}
 use Rattle.header.proofs.KnownTypes.{size_by}
-use borrow.Author.Rules.{rules}
 use Rattle.header.proofs.kind.header_size.Goals as goal
 
 pub returns-then-is_timed : goal.returns-then-is_timed

@@ -1,5 +1,4 @@
 use Rattle.header.proofs.Reading.{header_beyond, header-within}
-use borrow.Author.Rules.{rules}
 use Rattle.header.proofs.read.read_header.Goals as goal
 
 pub returns-then-s-at : goal.returns-then-s-at

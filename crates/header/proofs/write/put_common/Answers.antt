@@ -1,5 +1,4 @@
 use Rattle.header.proofs.Writing.{common-stored}
-use borrow.Author.Rules.{rules}
 use Rattle.header.proofs.write.put_common.Goals as goal
 
 pub returns : goal.returns

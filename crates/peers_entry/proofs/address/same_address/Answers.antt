@@ -1,9 +1,4 @@
-use mathlib.Core.Path.{◌≡◌}
-use native.Mathlib.Nat.{le_of_eq}
-use lib.ListN.{length}
-use borrow.Author.Tests.{not-true, not-false}
 use Rattle.peers_entry.proofs.Records.{other_octets, one_address}
-use borrow.Author.Rules.{rules}
 use Rattle.peers_entry.proofs.address.same_address.Goals as goal
 
 pub returns-then-not-same_octets : goal.returns-then-not-same_octets

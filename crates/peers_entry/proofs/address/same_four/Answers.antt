@@ -1,5 +1,4 @@
 use Rattle.peers_entry.proofs.Addresses.{four_same}
-use borrow.Author.Rules.{rules}
 use Rattle.peers_entry.proofs.address.same_four.Goals as goal
 
 pub returns : goal.returns

@@ -1,6 +1,4 @@
-use borrow.Author.Tests.{not-true, not-false}
 use Rattle.peers_entry.proofs.Addresses.{first-apart, same_short, last_apart, third_apart, second_decides}
-use borrow.Author.Rules.{rules}
 use Rattle.peers_entry.proofs.address.same_octets.Goals as goal
 
 pub returns-then-not-same_four : goal.returns-then-not-same_four

@@ -1,4 +1,3 @@
-use borrow.Author.Rules.{rules}
 use Rattle.peers_entry.specs.Peer.{address_size}
 use Rattle.peers_entry.proofs.kind.address_size.Goals as goal
 

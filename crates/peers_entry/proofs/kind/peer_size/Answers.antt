@@ -1,6 +1,5 @@
 use Rattle.peers_entry.proofs.Sizes.{address_le, as_le, size_is}
 use native.Mathlib.Omega.{arith}
-use borrow.Author.Rules.{rules}
 use Rattle.peers_entry.proofs.kind.peer_size.Goals as goal
 
 pub overflow_add-result : goal.overflow_add-result

@@ -1,7 +1,6 @@
 use native.Mathlib.Omega.{arith}
 use Rattle.peers_entry.proofs.Sizes.{as_least}
 use Rattle.peers_entry.proofs.Records.{as_stored}
-use borrow.Author.Rules.{rules}
 use Rattle.peers_entry.proofs.record.put_as.Goals as goal
 
 pub overflow_sub-end : goal.overflow_sub-end

@@ -6,7 +6,6 @@ use Rattle.octets_address.proofs.Addresses.{length_put}
 use Rattle.peers_entry.specs.Peer.{address_size}
 use Rattle.peers_entry.proofs.Sizes.{address_le, size_is}
 use Rattle.peers_entry.proofs.Records.{put_small, put_late, put_whole}
-use borrow.Author.Rules.{rules}
 use Rattle.peers_entry.proofs.record.put_peer.Goals as goal
 
 pub returns-then-n-size : goal.returns-then-n-size
@@ -32,6 +31,7 @@ pub returns : goal.returns
 unfolding address_size
 returns c = record {
   answer =
-    put_whole _ _ _ c.peer_size-size.ensures.answer c.if-n-size.false c.if-n-size-2.false
-    c.address_size-length.ensures c.put_octet.ensures c.store32.ensures
-    c.put_address.ensures.answer c.put_as.ensures }
+      put_whole _ _ _ c.peer_size-size.ensures.answer c.if-n-size.false c.if-n-size-2.false
+      c.address_size-length.ensures c.put_octet.ensures c.store32.ensures
+      c.put_address.ensures.answer c.put_as.ensures;
+}

@@ -1,7 +1,6 @@
 use native.Mathlib.Omega.{arith}
 use Rattle.peers_entry.proofs.Sizes.{as_least}
 use Rattle.peers_entry.proofs.Records.{as_read_long, as_read_short}
-use borrow.Author.Rules.{rules}
 use Rattle.peers_entry.proofs.record.read_as.Goals as goal
 
 pub overflow_sub-last : goal.overflow_sub-last

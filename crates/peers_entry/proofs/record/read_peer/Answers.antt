@@ -3,7 +3,6 @@ use native.Mathlib.Omega.{arith}
 use Rattle.peers_entry.specs.Peer.{address_size}
 use Rattle.peers_entry.proofs.Sizes.{address_le, size_is}
 use Rattle.peers_entry.proofs.Records.{read_beyond, read_short, read_whole}
-use borrow.Author.Rules.{rules}
 use Rattle.peers_entry.proofs.record.read_peer.Goals as goal
 
 pub returns-then-n-at : goal.returns-then-n-at
@@ -12,9 +11,10 @@ returns-then-n-at c = record { answer = c.refuse.ensures ∙ read_beyond _ _ c.i
 pub returns-then-n-at-2 : goal.returns-then-n-at-2
 returns-then-n-at-2 c = record {
   answer =
-    c.refuse-then-n-at-2.ensures
-    ∙ read_short _ _ c.if-n-at.false c.octet-kind.ensures
-    c.peer_size-size.ensures.answer c.if-n-at-2.true }
+      c.refuse-then-n-at-2.ensures
+      ∙ read_short _ _ c.if-n-at.false c.octet-kind.ensures
+      c.peer_size-size.ensures.answer c.if-n-at-2.true;
+}
 
 pub slice_bounds-be32-end : goal.slice_bounds-be32-end
 slice_bounds-be32-end c = omega (arith, size_is c.octet-kind.result)
@@ -31,6 +31,7 @@ pub returns : goal.returns
 unfolding address_size
 returns c = record {
   answer =
-    read_whole _ _ c.if-n-at.false c.octet-kind.ensures c.peer_size-size.ensures.answer c.if-n-at-2.false
-    c.address_size-length.ensures c.read_address-addr.ensures.answer
-    c.be32.ensures c.read_as.ensures }
+      read_whole _ _ c.if-n-at.false c.octet-kind.ensures c.peer_size-size.ensures.answer c.if-n-at-2.false
+      c.address_size-length.ensures c.read_address-addr.ensures.answer
+      c.be32.ensures c.read_as.ensures;
+}

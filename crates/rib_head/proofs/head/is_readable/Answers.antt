@@ -1,4 +1,3 @@
-use borrow.Author.Rules.{rules}
 use Rattle.rib_head.proofs.Heads.{readable-many, readable_short, readable-rest}
 use Rattle.rib_head.proofs.head.is_readable.Goals as goal
 

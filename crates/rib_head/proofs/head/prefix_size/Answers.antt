@@ -1,5 +1,4 @@
 use mathlib.Core.Path.{refl}
-use borrow.Author.Rules.{rules}
 use Rattle.rib_head.specs.Layout.{prefix_size}
 use Rattle.rib_head.proofs.head.prefix_size.Goals as goal
 

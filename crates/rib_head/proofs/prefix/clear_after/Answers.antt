@@ -1,8 +1,5 @@
-use Prim.Native.Nat.{◌≤◌, ◌-◌}
-use mathlib.Core.Path.{◌≡◌, refl}
-use mathlib.Core.List.{◌++◌}
+use mathlib.Core.Path.{refl}
 use native.Mathlib.Omega.{arith}
-use lib.ListN.{replicate}
 use Rattle.rib_head.specs.Prefix.{cleared}
 use Rattle.rib_head.proofs.Prefixes.{clear_turn, clear_done}
 use Rattle.rib_head.proofs.prefix.clear_after.Goals as goal

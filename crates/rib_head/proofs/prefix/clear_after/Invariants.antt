@@ -1,10 +1,8 @@
 use Prim.Native.Nat.{◌≤◌, ◌-◌}
-use mathlib.Core.Path.{◌≡◌, refl}
+use mathlib.Core.Path.{◌≡◌}
 use mathlib.Core.List.{◌++◌}
-use native.Mathlib.Omega.{arith}
 use lib.ListN.{replicate}
 use Rattle.rib_head.specs.Prefix.{cleared}
-use Rattle.rib_head.proofs.Prefixes.{clear_turn, clear_done}
 use Rattle.rib_head.proofs.prefix.clear_after.Given as goal
 
 abbrev pub invariant-loop-i : goal.invariant-loop-i

@@ -1,5 +1,4 @@
 use mathlib.Core.Path.{refl}
-use borrow.Author.Rules.{rules}
 use Rattle.rib_head.proofs.Prefixes.{masked-after, masked-within, masked_shift}
 use Rattle.rib_head.proofs.prefix.mask.Goals as goal
 

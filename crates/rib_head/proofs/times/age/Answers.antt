@@ -1,4 +1,3 @@
-use borrow.Author.Rules.{rules}
 use Rattle.rib_head.proofs.Difference.{fits, exact}
 use Rattle.rib_head.proofs.times.age.Goals as goal
 

@@ -1,5 +1,4 @@
 use Rattle.walk_checks.proofs.Messages.{marker_first, marker_second, marker_third, marker_last}
-use borrow.Author.Rules.{rules}
 use Rattle.walk_checks.proofs.bgp.is_marker.Goals as goal
 
 pub returns-then-be32-ne4294967295 : goal.returns-then-be32-ne4294967295

@@ -1,7 +1,5 @@
-use borrow.Author.Tests.{not-true, not-false}
 use mathlib.Core.Path.{sym, ◌∙◌}
 use Rattle.walk_checks.proofs.Messages.{message_short, message_unmarked, message_unfilled, message-low, message-high}
-use borrow.Author.Rules.{rules}
 use Rattle.walk_checks.proofs.bgp.is_message.Goals as goal
 
 pub returns-then-n-lt19 : goal.returns-then-n-lt19

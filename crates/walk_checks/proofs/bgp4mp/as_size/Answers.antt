@@ -1,7 +1,6 @@
 use mathlib.Core.Path.{refl}
 use Rattle.walk_checks.specs.Bgp4mp.{as_size, as_sizes}
 use Rattle.walk_checks.proofs.Envelopes.{as_size-rest}
-use borrow.Author.Rules.{rules}
 use Rattle.walk_checks.proofs.bgp4mp.as_size.Goals as goal
 
 pub returns-then-u-lt12 : goal.returns-then-u-lt12

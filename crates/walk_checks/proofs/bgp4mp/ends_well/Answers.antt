@@ -1,6 +1,5 @@
 use mathlib.Core.Path.{sym, ◌∙◌}
 use Rattle.walk_checks.proofs.Envelopes.{tail_states, tail-message}
-use borrow.Author.Rules.{rules}
 use Rattle.walk_checks.proofs.bgp4mp.ends_well.Goals as goal
 
 pub returns-then-is_state_change : goal.returns-then-is_state_change

@@ -2,7 +2,6 @@ use Prim.Native.Nat.{ℕ}
 use lib.Dec.{eqb}
 use mathlib.Core.Bool.{not}
 use mathlib.Core.Path.{ap}
-use borrow.Author.Rules.{rules}
 use Rattle.walk_checks.proofs.bgp4mp.is_carried.Goals as goal
 
 pub returns : goal.returns

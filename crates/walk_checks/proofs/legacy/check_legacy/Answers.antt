@@ -1,5 +1,4 @@
 use Rattle.walk_checks.proofs.Lengths.{legacy_other, legacy_short, legacy-long, legacy-met}
-use borrow.Author.Rules.{rules}
 use Rattle.walk_checks.proofs.legacy.check_legacy.Goals as goal
 
 pub returns-then-b : goal.returns-then-b

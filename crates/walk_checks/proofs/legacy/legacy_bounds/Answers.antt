@@ -10,6 +10,6 @@ returns c =
     let u = c.args.subtype in
     of_row (legacy_bounds u)
     (elim c.if-u-lt8.branch [
-      then-u-lt8 w ↦ w.row-is ∙ row_at legacy_rows u w.if-u-lt8.true
-    | else-u-lt8 w ↦ w.row-is ∙ row_beyond legacy_rows u w.if-u-lt8.false
+      | then-u-lt8 w ↦ w.row-is ∙ row_at legacy_rows u w.if-u-lt8.true
+      | else-u-lt8 w ↦ w.row-is ∙ row_beyond legacy_rows u w.if-u-lt8.false
     ])
