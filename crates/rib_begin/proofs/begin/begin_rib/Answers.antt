@@ -1,5 +1,4 @@
 use native.Mathlib.Omega.{arith}
-use borrow.Author.Rules.{rules}
 use Rattle.rib_head.specs.Layout.{prefix_size}
 use Rattle.rib_head.proofs.Layouts.{most_bits-le}
 use Rattle.rib_head.proofs.Heads.{carried-not, carried_so, most_of}

@@ -1,5 +1,4 @@
 use native.Mathlib.Omega.{arith}
-use borrow.Author.Rules.{rules}
 use Rattle.rib_begin.proofs.Written.{prefix-le, length-prefix, head-stored}
 use Rattle.rib_begin.proofs.begin.put_head.Goals as goal
 

@@ -1,4 +1,3 @@
-use borrow.Author.Rules.{rules}
 use Rattle.rib_entries.proofs.Steps.{after_unmet, after-met}
 use Rattle.rib_entries.proofs.entries.after_entries.Goals as goal
 

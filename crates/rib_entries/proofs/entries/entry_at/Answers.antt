@@ -1,5 +1,4 @@
 use mathlib.Core.Path.{◌∙◌}
-use borrow.Author.Rules.{rules}
 use Rattle.rib_entries.proofs.Passing.{here_sized}
 use Rattle.rib_head.proofs.Layouts.{path_sized}
 use Rattle.rib_head.proofs.Heads.{path_of}
@@ -18,6 +17,7 @@ returns-in-Refused c = record { answer = entry_unmet _ _ _ c.first_entry.ensures
 pub returns-else-first-i : goal.returns-else-first-i
 returns-else-first-i c = record {
   answer =
-    entry-after _ _ _
-    c.first_entry.ensures.answer c.in-At.is _ c.if-first-i.false c.pass_entries-c.ensures.answer
-    (c.read_entry.ensures ∙ here_sized _ _ (path_of _ c.layout_of-l.ensures.answer)) }
+      entry-after _ _ _
+      c.first_entry.ensures.answer c.in-At.is _ c.if-first-i.false c.pass_entries-c.ensures.answer
+      (c.read_entry.ensures ∙ here_sized _ _ (path_of _ c.layout_of-l.ensures.answer));
+}

@@ -1,5 +1,4 @@
 use native.Mathlib.Omega.{arith}
-use borrow.Author.Rules.{rules}
 use Rattle.rib_head.specs.Layout.{prefix_size}
 use Rattle.rib_entries.proofs.Steps.{said-met, first_unmet, first-met}
 use Rattle.rib_entries.proofs.entries.first_entry.Goals as goal
@@ -18,6 +17,7 @@ returns-in-Refused c = record { answer = first_unmet _ _ _ c.check_rib.ensures.a
 pub returns-in-Accepted : goal.returns-in-Accepted
 returns-in-Accepted c = record {
   answer =
-    first-met _ _
-    (said-met _ _ _ c.check_rib.ensures.answer c.in-Accepted.is) c.octet.ensures
-    c.prefix_size-size.ensures.answer c.be16.ensures }
+      first-met _ _
+      (said-met _ _ _ c.check_rib.ensures.answer c.in-Accepted.is) c.octet.ensures
+      c.prefix_size-size.ensures.answer c.be16.ensures;
+}

@@ -1,5 +1,4 @@
 use mathlib.Core.Path.{◌∙◌}
-use borrow.Author.Rules.{rules}
 use Rattle.rib_entries.proofs.Steps.{next_beyond, next_other, next-none, next_short, next-handed}
 use Rattle.rib_entries.proofs.Passing.{here_unfit, here_sized}
 use Rattle.rib_head.proofs.Layouts.{path_sized}
@@ -21,14 +20,16 @@ read_entry-requires c = path_sized _ (path_of _ c.layout_of-l.ensures.answer)
 pub returns-in-Refused : goal.returns-in-Refused
 returns-in-Refused c = record {
   answer =
-    next_short _ _ _
-    c.if-body-c.false (carried_so _ c.layout_of-l.ensures.answer c.if-not-l.false) c.if-left-eq0.false
-    (here_unfit _ _ _ _ (c.read_entry.ensures ∙ here_sized _ _ (path_of _ c.layout_of-l.ensures.answer))
-    c.in-Refused.is) }
+      next_short _ _ _
+      c.if-body-c.false (carried_so _ c.layout_of-l.ensures.answer c.if-not-l.false) c.if-left-eq0.false
+      (here_unfit _ _ _ _ (c.read_entry.ensures ∙ here_sized _ _ (path_of _ c.layout_of-l.ensures.answer))
+      c.in-Refused.is);
+}
 
 pub returns-in-Read : goal.returns-in-Read
 returns-in-Read c = record {
   answer =
-    next-handed _ _ _
-    c.if-body-c.false (carried_so _ c.layout_of-l.ensures.answer c.if-not-l.false) c.if-left-eq0.false _
-    (c.read_entry.ensures ∙ here_sized _ _ (path_of _ c.layout_of-l.ensures.answer)) c.in-Read.is }
+      next-handed _ _ _
+      c.if-body-c.false (carried_so _ c.layout_of-l.ensures.answer c.if-not-l.false) c.if-left-eq0.false _
+      (c.read_entry.ensures ∙ here_sized _ _ (path_of _ c.layout_of-l.ensures.answer)) c.in-Read.is;
+}

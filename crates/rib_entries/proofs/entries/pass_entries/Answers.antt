@@ -1,7 +1,5 @@
-use mathlib.Core.Path.{◌≡◌, refl, sym, ◌∙◌}
+use mathlib.Core.Path.{refl, sym, ◌∙◌}
 use native.Mathlib.Omega.{arith}
-use borrow.Author.Rules.{rules}
-use Rattle.rib_entries.specs.Entry.{passed}
 use Rattle.rib_head.proofs.Heads.{path_of}
 use Rattle.rib_head.proofs.Layouts.{path_sized}
 use Rattle.rib_entries.proofs.Passing.{passed_read, passed_sized, passed-unread, passed_none}
@@ -16,9 +14,10 @@ read_entry-requires c = path_sized _ (path_of _ c.layout_of-l.ensures.answer)
 pub returns-in-Refused : goal.returns-in-Refused
 returns-in-Refused c = record {
   answer =
-    passed-unread _ _ _ _ c.loop-left-test.true _ c.read_entry.ensures c.in-Refused.is
-    ∙ sym c.loop-left.invariant
-    ∙ passed_sized _ _ _ (path_of _ c.layout_of-l.ensures.answer) }
+      passed-unread _ _ _ _ c.loop-left-test.true _ c.read_entry.ensures c.in-Refused.is
+      ∙ sym c.loop-left.invariant
+      ∙ passed_sized _ _ _ (path_of _ c.layout_of-l.ensures.answer);
+}
 
 pub overflow_sub-left : goal.overflow_sub-left
 overflow_sub-left c = omega arith
@@ -34,5 +33,6 @@ loop-left-preserved c =
 pub returns : goal.returns
 returns c = record {
   answer =
-    passed_none _ _ _ _ c.loop-left-test.false ∙ sym c.loop-left.invariant
-    ∙ passed_sized _ _ _ (path_of _ c.layout_of-l.ensures.answer) }
+      passed_none _ _ _ _ c.loop-left-test.false ∙ sym c.loop-left.invariant
+      ∙ passed_sized _ _ _ (path_of _ c.layout_of-l.ensures.answer);
+}

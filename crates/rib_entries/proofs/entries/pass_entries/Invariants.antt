@@ -1,10 +1,5 @@
-use mathlib.Core.Path.{◌≡◌, refl, sym, ◌∙◌}
-use native.Mathlib.Omega.{arith}
-use borrow.Author.Rules.{rules}
+use mathlib.Core.Path.{◌≡◌}
 use Rattle.rib_entries.specs.Entry.{passed}
-use Rattle.rib_head.proofs.Heads.{path_of}
-use Rattle.rib_head.proofs.Layouts.{path_sized}
-use Rattle.rib_entries.proofs.Passing.{passed_read, passed_sized, passed-unread, passed_none}
 use Rattle.rib_entries.proofs.entries.pass_entries.Given as goal
 
 abbrev pub invariant-loop-left : goal.invariant-loop-left

@@ -1,5 +1,4 @@
 use mathlib.Core.Path.{sym, ◌∙◌, ap}
-use borrow.Author.Rules.{rules}
 use Rattle.octets.specs.Octets.{be_at}
 use Rattle.rib_head.proofs.Layouts.{sized_four}
 use Rattle.rib_entries.proofs.entries.path_number.Goals as goal

@@ -1,6 +1,5 @@
 use mathlib.Core.Path.{refl}
 use native.Mathlib.Omega.{arith}
-use borrow.Author.Rules.{rules}
 use Rattle.rib_entries.proofs.Passing.{here_past, here_short, here_cut, here_read}
 use Rattle.rib_head.proofs.Layouts.{sized_le}
 use Rattle.rib_entries.proofs.entries.read_entry.Goals as goal

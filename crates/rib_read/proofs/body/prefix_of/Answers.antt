@@ -1,5 +1,4 @@
 use mathlib.Core.Path.{◌∙◌}
-use borrow.Author.Rules.{rules}
 use Rattle.rib_read.proofs.Bodies.{prefix-stored}
 use Rattle.rib_read.proofs.body.prefix_of.Goals as goal
 

@@ -1,5 +1,4 @@
 use mathlib.Core.Path.{◌∙◌}
-use borrow.Author.Rules.{rules}
 use Rattle.rib_read.proofs.Bodies.{rib_unmet, left-le-first, prefix-within, rib-met}
 use Rattle.rib_read.proofs.body.read_rib.Goals as goal
 
@@ -18,6 +17,7 @@ returns-in-Refused c = record { answer = c.refused.ensures ∙ rib_unmet _ _ _ c
 pub returns-in-At : goal.returns-in-At
 returns-in-At c = record {
   answer =
-    rib-met _ _ _
-    c.first_entry.ensures.answer c.in-At.is c.pass_entries-after.ensures.answer
-    c.be32.ensures c.octet-bits.ensures c.prefix_of.ensures }
+      rib-met _ _ _
+      c.first_entry.ensures.answer c.in-At.is c.pass_entries-after.ensures.answer
+      c.be32.ensures c.octet-bits.ensures c.prefix_of.ensures;
+}
