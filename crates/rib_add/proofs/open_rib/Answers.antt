@@ -1,6 +1,5 @@
 use native.Mathlib.Omega.{arith}
 use Rattle.rib_head.specs.Layout.{prefix_size}
-use borrow.Author.Rules.{rules}
 use Rattle.rib_add.proofs.Answers.{open_unmet, open_left, open_over, open_met}
 use Rattle.rib_add.proofs.open_rib.Goals as goal
 
@@ -20,6 +19,7 @@ returns-in-Refused c = record { answer = open_unmet _ _ _ c.after_entries.ensure
 pub returns-else-c-len : goal.returns-else-c-len
 returns-else-c-len c = record {
   answer =
-    open_met _ _ _
-    c.after_entries.ensures.answer c.in-At.is c.if-c-ne0.false c.if-c-len.false
-    c.octet.ensures c.prefix_size-at.ensures.answer c.be16.ensures }
+      open_met _ _ _
+      c.after_entries.ensures.answer c.in-At.is c.if-c-ne0.false c.if-c-len.false
+      c.octet.ensures c.prefix_size-at.ensures.answer c.be16.ensures;
+}

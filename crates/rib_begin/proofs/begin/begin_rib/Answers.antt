@@ -11,9 +11,10 @@ returns-then-not-l c = record { answer = begin_other _ _ _ _ _ (carried-not _ c.
 pub returns-then-l-bits : goal.returns-then-l-bits
 returns-then-l-bits c = record {
   answer =
-    begin_large _ _ _ _ _
-    (carried_so _ c.layout_of-l.ensures.answer c.if-not-l.false) (most_of _ c.layout_of-l.ensures.answer)
-    c.if-l-bits.true }
+      begin_large _ _ _ _ _
+      (carried_so _ c.layout_of-l.ensures.answer c.if-not-l.false) (most_of _ c.layout_of-l.ensures.answer)
+      c.if-l-bits.true;
+}
 
 pub overflow_add-size : goal.overflow_add-size
 unfolding prefix_size
@@ -22,9 +23,10 @@ overflow_add-size c = omega (arith, c.prefix_size-size.ensures.answer)
 pub returns-then-out-size : goal.returns-then-out-size
 returns-then-out-size c = record {
   answer =
-    begin_full _ _ _ _ _
-    (carried_so _ c.layout_of-l.ensures.answer c.if-not-l.false) (most_of _ c.layout_of-l.ensures.answer)
-    c.if-l-bits.false c.prefix_size-size.ensures.answer c.if-out-size.true }
+      begin_full _ _ _ _ _
+      (carried_so _ c.layout_of-l.ensures.answer c.if-not-l.false) (most_of _ c.layout_of-l.ensures.answer)
+      c.if-l-bits.false c.prefix_size-size.ensures.answer c.if-out-size.true;
+}
 
 pub put_head-requires : goal.put_head-requires
 put_head-requires c =
@@ -33,6 +35,7 @@ put_head-requires c =
 pub returns : goal.returns
 returns c = record {
   answer =
-    begin_done _ _ _ _ _
-    (carried_so _ c.layout_of-l.ensures.answer c.if-not-l.false) (most_of _ c.layout_of-l.ensures.answer)
-    c.if-l-bits.false c.prefix_size-size.ensures.answer c.if-out-size.false c.put_head.ensures }
+      begin_done _ _ _ _ _
+      (carried_so _ c.layout_of-l.ensures.answer c.if-not-l.false) (most_of _ c.layout_of-l.ensures.answer)
+      c.if-l-bits.false c.prefix_size-size.ensures.answer c.if-out-size.false c.put_head.ensures;
+}

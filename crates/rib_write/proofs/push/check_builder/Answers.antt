@@ -1,5 +1,4 @@
 use native.Mathlib.Omega.{arith}
-use borrow.Author.Rules.{rules}
 use Rattle.rib_head.specs.Layout.{prefix_size}
 use Rattle.rib_entries.proofs.Steps.{said-met, said_unmet}
 use Rattle.rib_write.proofs.Answers.{standing-unread, standing_apart, standing_another, standing_same}

@@ -1,4 +1,3 @@
-use borrow.Author.Rules.{rules}
 use Rattle.rib_head.proofs.Heads.{path_of}
 use Rattle.rib_write.proofs.Answers.{unfit-count, unfit-length, unfit_never, unfit-path}
 use Rattle.rib_write.proofs.push.is_unfit.Goals as goal

@@ -4,7 +4,6 @@ use Rattle.rib_head.proofs.Layouts.{path-size-le, path_sized}
 use Rattle.rib_head.proofs.Heads.{path_of}
 use Rattle.rib_write.proofs.Answers.{fit_count, count_room, after-unfit, after_full, after-done}
 use Rattle.rib_write.proofs.Written.{part-stored}
-use borrow.Author.Rules.{rules}
 use Rattle.rib_write.proofs.push.push_after.Goals as goal
 
 pub returns-then-is_unfit : goal.returns-then-is_unfit

@@ -1,6 +1,5 @@
 use mathlib.Core.Path.{sym}
 use lib.Seq.{length-take-le}
-use borrow.Author.Rules.{rules}
 use Rattle.rib_write.proofs.Answers.{push_beyond, push_unmet, push_met}
 use Rattle.rib_write.proofs.push.push_entry.Goals as goal
 
@@ -16,5 +15,6 @@ returns-in-Refused c = record { answer = push_unmet _ _ _ _ _ c.if-out-b.false _
 pub returns-in-Accepted : goal.returns-in-Accepted
 returns-in-Accepted c = record {
   answer =
-    push_met _ _ _ _ _ c.if-out-b.false _ c.check_builder.ensures c.in-Accepted.is
-    c.push_after.ensures }
+      push_met _ _ _ _ _ c.if-out-b.false _ c.check_builder.ensures c.in-Accepted.is
+      c.push_after.ensures;
+}

@@ -3,7 +3,6 @@ use native.Mathlib.Omega.{arith}
 use Rattle.octets.specs.Octets.{patch}
 use Rattle.rib_head.proofs.Layouts.{sized_le}
 use Rattle.rib_write.proofs.Written.{bytes_cut, path-cut, entry-stored}
-use borrow.Author.Rules.{rules}
 use Rattle.rib_write.proofs.push.put_entry.Goals as goal
 
 pub overflow_add-path : goal.overflow_add-path

@@ -1,6 +1,5 @@
 use Rattle.rib_head.proofs.Layouts.{sized_four}
 use Rattle.rib_write.proofs.Written.{path_unwritten, path_written}
-use borrow.Author.Rules.{rules}
 use Rattle.rib_write.proofs.push.put_path.Goals as goal
 
 pub returns-then-path-eq0 : goal.returns-then-path-eq0

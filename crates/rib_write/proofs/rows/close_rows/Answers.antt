@@ -1,5 +1,4 @@
 use Rattle.rib_write.proofs.ByRows.{rows-closed}
-use borrow.Author.Rules.{rules}
 use Rattle.rib_write.proofs.rows.close_rows.Goals as goal
 
 pub returns : goal.returns

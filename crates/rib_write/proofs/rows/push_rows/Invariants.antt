@@ -1,12 +1,6 @@
-use Prim.Native.Nat.{◌+◌, ◌-◌, ◌<◌, ◌≤◌}
-use mathlib.Core.Path.{◌≡◌, refl}
+use Prim.Native.Nat.{◌-◌}
 use lib.ListN.{length}
-use native.Mathlib.Omega.{arith}
-use borrow.Author.Rules.{rules}
-use Rattle.rib_head.proofs.Layouts.{path_sized}
-use Rattle.rib_head.proofs.Heads.{path_of}
-use Rattle.rib_write.proofs.ByRows.{Going, len-within, going_start, going_on, going_ends, ends_same, going_full}
-use Rattle.rib_write.proofs.ByRows.{row-refused, row_stays, row-taken, row-size, row-fits_in, row-stored}
+use Rattle.rib_write.proofs.ByRows.{Going}
 use Rattle.rib_write.proofs.rows.push_rows.Given as goal
 
 abbrev pub invariant-loop-place : goal.invariant-loop-place

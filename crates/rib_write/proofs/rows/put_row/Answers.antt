@@ -6,7 +6,6 @@ use native.Mathlib.Omega.{arith}
 use Rattle.rib_head.proofs.Layouts.{sized_le}
 use Rattle.rib_write.proofs.ByRows.{Taken, path-over, path-within, path-none, length-row, put_refused, put_taken}
 use Rattle.rib_write.proofs.Written.{front_filled}
-use borrow.Author.Rules.{rules}
 use Rattle.rib_write.proofs.rows.put_row.Goals as goal
 
 pub overflow_add-rows : goal.overflow_add-rows
