@@ -1,7 +1,7 @@
 -- What the exported calls answer, from what the functions that they ask answer.
 use Prim.Native.Nat.{ℕ, ◌%◌, ◌<◌, ◌≤◌}
 use mathlib.Core.Path.{◌≡◌, refl, ◌∙◌, ap}
-use mathlib.Core.List.{[], List, map, map-id}
+use mathlib.Core.List.{[], List}
 use mathlib.Core.Bool.{Bool, true, false}
 use borrow.Author.Tests.{lt-ltb, le-ltb}
 use lib.ListN.{length}
@@ -50,10 +50,6 @@ no_table slots = by_slots (ltb slots 65536) refl
     by_slots true e = simp e
     by_slots false e = simp e
 
--- a key's octets, as a walk by hand has them of the record
-abbrev pub octets : Key → List ℕ
-octets k = map (λ (v : ℕ). v) k.addr
-
 -- ---- a lookup
 module _ (l : List Peer) (count kind : ℕ) (addr : List ℕ) where
   abbrev v6 : Bool
@@ -68,12 +64,12 @@ module _ (l : List Peer) (count kind : ℕ) (addr : List ℕ) where
       by_size true e = simp (e, no_table (length l))
       by_size false e = simp e
 
-  pub find_out_lem : {k : Key} {f : Finding} {r : Found} → k ≡ key_for count kind addr → f ≡ find_peer l k.count k.v6 (octets k)
+  pub find_out_lem : {k : Key} {f : Finding} {r : Found} → k ≡ key_for count kind addr → f ≡ find_peer l k.count k.v6 k.addr
       → r ≡ found_of f → r ≡ find_out l count kind addr
   unfolding key_for
   find_out_lem {k} {f} {r} k-is f-is r-is =
       r-is
-      ∙ ap found_of (f-is ∙ ap (find_peer l k.count k.v6) (map-id k.addr))
+      ∙ ap found_of f-is
       ∙ ap (λ (x : Key). found_of (find_peer l x.count x.v6 x.addr)) k-is
       ∙ looks
 

@@ -1,4 +1,3 @@
--- Writes: slots written. Steps: what the helpers decide, case by case. Again: a slice lent again.
+-- Writes: slots written. Steps: what the helpers decide, case by case.
 pub mod Writes
 pub mod Steps
-pub mod Again

@@ -1,5 +1,4 @@
 use Rattle.peers_read.proofs.Loads.{plan_refused, plan_few, plan_whole}
-use borrow.Author.Rules.{rules}
 use Rattle.peers_read.proofs.load.plan_load.Goals as goal
 
 pub returns-then-slots-count : goal.returns-then-slots-count

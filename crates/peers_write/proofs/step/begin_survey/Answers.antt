@@ -1,5 +1,4 @@
 use Rattle.peers_write.proofs.Steps.{survey_is}
-use borrow.Author.Rules.{rules}
 use Rattle.peers_write.proofs.step.begin_survey.Goals as goal
 
 pub returns : goal.returns

@@ -1,7 +1,6 @@
 use Rattle.peers_write.proofs.Steps.{less_unfit, less_fit}
 use Prim.Native.Nat.{ℕ, ◌-◌}
 use mathlib.Core.Path.{◌∙◌, ap}
-use borrow.Author.Rules.{rules}
 use Rattle.peers_write.proofs.step.less_peer.Goals as goal
 
 pub returns-then-left : goal.returns-then-left

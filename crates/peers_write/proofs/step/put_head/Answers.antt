@@ -1,5 +1,4 @@
 use Rattle.peers_write.proofs.Steps.{head_run}
-use borrow.Author.Rules.{rules}
 use Rattle.peers_write.proofs.step.put_head.Goals as goal
 
 pub returns : goal.returns

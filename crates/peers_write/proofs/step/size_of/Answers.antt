@@ -1,6 +1,5 @@
 use Rattle.peers_write.proofs.Steps.{size-row}
 use native.Mathlib.Omega.{arith}
-use borrow.Author.Rules.{rules}
 use Rattle.peers_write.proofs.step.size_of.Goals as goal
 
 pub offset_bounds-k : goal.offset_bounds-k

@@ -2,7 +2,6 @@ use Rattle.peers_slots.proofs.Counts.{is_right}
 use Rattle.peers_write.proofs.Steps.{start_wrong, start-name, start-unfit, start_small, start_never, start-whole}
 use mathlib.Core.Path.{sym, ◌∙◌}
 use native.Mathlib.Omega.{arith}
-use borrow.Author.Rules.{rules}
 use Rattle.peers_write.proofs.step.write_head.Goals as goal
 
 pub returns-then-wrong_count : goal.returns-then-wrong_count
