@@ -27,8 +27,14 @@ fn take(from: &Path, archive: &Path) {
 
 /// Proves the library and makes its archive.
 fn make(archive: &Path) {
-    for source in ["../tests/archive", "../crates.txt", "../crates"] {
+    for source in ["../tests/archive", "../crates.txt"] {
         println!("cargo:rerun-if-changed={source}");
+    }
+    // of a crate's folder what `rt` reads, and not the `out` that it writes
+    for folder in fs::read_dir("../crates").into_iter().flatten().flatten() {
+        for part in ["src", "specs", "proofs"] {
+            println!("cargo:rerun-if-changed={}", folder.path().join(part).display());
+        }
     }
     if !Path::new("../tests/archive").is_file() {
         stop("there is no libmrt.a to link: the repository is not around this folder");

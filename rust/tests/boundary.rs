@@ -88,13 +88,20 @@ fn lent(parameter: &str) -> Vec<(String, String)> {
     }
 }
 
-/// The exported calls of the library's source.
+/// The source of some of the library's crates.
+fn library(is_wanted: impl Fn(&str) -> bool) -> String {
+    let crates = Path::new(env!("CARGO_MANIFEST_DIR")).join("../crates");
+    let folders = fs::read_dir(&crates).unwrap_or_else(|error| panic!("{}: {error}", crates.display()));
+    let folders = folders.map(|entry| entry.unwrap()).filter(|entry| is_wanted(&entry.file_name().to_string_lossy()));
+    let sources = folders.flat_map(|entry| files(&entry.path().join("src"), "rt"));
+    sources.map(|path| plain(&text(path))).collect::<Vec<_>>().join(" ")
+}
+
+/// The exported calls of the library's source, which all stand in one crate.
 fn exported() -> Calls {
-    let sources = files(&Path::new(env!("CARGO_MANIFEST_DIR")).join("../crates"), "rt");
-    let source: Vec<_> = sources.iter().map(|path| plain(&text(path))).collect();
-    let source = source.join(" ");
-    let structs = structs(&source);
-    let after = source.split("#[no_mangle]").skip(1);
+    let structs = structs(&library(|_| true));
+    let source = library(|name| name == "mrt_c");
+    let after = source.split("#[unsafe(no_mangle)]").skip(1);
     after
         .map(|after| {
             let (name, after) = cut(cut(after, "extern \"C\" fn ").1, "(");

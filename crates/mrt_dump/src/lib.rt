@@ -9,8 +9,7 @@ use answer::Outcome;
 use mrt_lent::{put_values, refusal};
 
 // The fields of a TABLE_DUMP body; its prefix and its peer's address in 16 octets each.
-#[unsafe(no_mangle)]
-pub extern "C" fn mrt_read_table_dump(
+pub fn mrt_read_table_dump(
     body: &[u8],
     subtype: u16,
     out: &mut [u64],

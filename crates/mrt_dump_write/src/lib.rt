@@ -10,8 +10,7 @@ use dump_layout::Dump;
 use mrt_lent::Wrote;
 
 // A body at the front of the lent output.
-#[unsafe(no_mangle)]
-pub extern "C" fn mrt_write_table_dump(
+pub fn mrt_write_table_dump(
     out: &mut [u8],
     subtype: u16,
     view: u16,

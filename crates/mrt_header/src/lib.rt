@@ -12,8 +12,7 @@ use header::{CommonHeader, FrameAnswer, HeaderAnswer, StoredLength};
 use mrt_lent::Wrote;
 
 // The header at an offset of a stream.
-#[unsafe(no_mangle)]
-pub extern "C" fn mrt_read_header(s: &[u8], at: usize, out: &mut [u64]) -> u32
+pub fn mrt_read_header(s: &[u8], at: usize, out: &mut [u64]) -> u32
     ensures answer { (out.new, result) ≡ read_out out.old (header_at s.now at) }
 {
     match header::read_header(s, at) {
@@ -26,8 +25,7 @@ pub extern "C" fn mrt_read_header(s: &[u8], at: usize, out: &mut [u64]) -> u32
 }
 
 // The record at an offset of a stream, framed.
-#[unsafe(no_mangle)]
-pub extern "C" fn mrt_frame(s: &[u8], at: usize, out: &mut [u64]) -> u32
+pub fn mrt_frame(s: &[u8], at: usize, out: &mut [u64]) -> u32
     ensures answer { (out.new, result) ≡ framed_out out.old (frame_at s.now at) }
 {
     match header::frame_record(s, at) {
@@ -45,8 +43,7 @@ pub extern "C" fn mrt_frame(s: &[u8], at: usize, out: &mut [u64]) -> u32
 }
 
 // A header at the front of the lent output.
-#[unsafe(no_mangle)]
-pub extern "C" fn mrt_write_header(
+pub fn mrt_write_header(
     out: &mut [u8],
     timestamp: u32,
     kind: u16,

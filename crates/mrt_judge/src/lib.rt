@@ -12,8 +12,7 @@ use walk_candidate::CandidateAnswer;
 use walk_judge::JudgeAnswer;
 
 // The record at an offset of a stream, judged.
-#[unsafe(no_mangle)]
-pub extern "C" fn mrt_judge(s: &[u8], at: usize, out: &mut [u64]) -> u32
+pub fn mrt_judge(s: &[u8], at: usize, out: &mut [u64]) -> u32
     ensures answer { (out.new, result) ≡ judged_out out.old (judgement_at s.now at) }
 {
     match walk_judge::judge_record(s, at) {
@@ -32,8 +31,7 @@ pub extern "C" fn mrt_judge(s: &[u8], at: usize, out: &mut [u64]) -> u32
 }
 
 // Whether a scan may take up the record at an offset of a stream.
-#[unsafe(no_mangle)]
-pub extern "C" fn mrt_candidate(s: &[u8], at: usize, out: &mut [u64]) -> u32
+pub fn mrt_candidate(s: &[u8], at: usize, out: &mut [u64]) -> u32
     ensures answer { (out.new, result) ≡ candidate_out out.old s.now at }
 {
     if s.len() < at {
@@ -52,8 +50,7 @@ pub extern "C" fn mrt_candidate(s: &[u8], at: usize, out: &mut [u64]) -> u32
 }
 
 // The check of a body, by the type, subtype and stored length of its record.
-#[unsafe(no_mangle)]
-pub extern "C" fn mrt_check_body(body: &[u8], kind: u16, subtype: u16, stored: u32) -> u32
+pub fn mrt_check_body(body: &[u8], kind: u16, subtype: u16, stored: u32) -> u32
     ensures answer { result ≡ check kind subtype stored body.now }
 {
     match walk_judge::check_body(body, kind, subtype, StoredLength(stored)) {

@@ -11,8 +11,7 @@ use walk_missing::{Counters, Missing};
 
 // A record by its type, subtype and body, with counters that are lent as four numbers. Room for what is told is asked for before
 // they are moved, so that nothing is lost.
-#[unsafe(no_mangle)]
-pub extern "C" fn mrt_missing(
+pub fn mrt_missing(
     body: &[u8],
     kind: u16,
     subtype: u16,

@@ -29,8 +29,7 @@ fn added_as(a: AddAnswer) -> Found
 }
 
 // The id of a peer, which is stored after the last one in use where its address is not known.
-#[unsafe(no_mangle)]
-pub extern "C" fn mrt_add_peer(
+pub fn mrt_add_peer(
     slots: &mut [Peer],
     count: usize,
     kind: u8,

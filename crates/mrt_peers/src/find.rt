@@ -25,8 +25,7 @@ fn found_of(a: FindAnswer) -> Found
 }
 
 // The highest id that holds an address.
-#[unsafe(no_mangle)]
-pub extern "C" fn mrt_find_peer(slots: &[Peer], count: usize, kind: u8, addr: &[u8]) -> Found
+pub fn mrt_find_peer(slots: &[Peer], count: usize, kind: u8, addr: &[u8]) -> Found
     ensures answer { result ≡ find_out slots.now count kind addr.now }
 {
     let key = key_for(count, kind, addr);

@@ -11,8 +11,7 @@ pub use load::mrt_load_peers;
 use peers_table::TableAnswer;
 
 // The head of a peer table whose body holds every declared peer.
-#[unsafe(no_mangle)]
-pub extern "C" fn mrt_check_peers(body: &[u8], out: &mut [u64]) -> u32
+pub fn mrt_check_peers(body: &[u8], out: &mut [u64]) -> u32
     ensures answer { (out.new, result) ≡ table_out out.old (check_peers body.now) }
 {
     match peers_table::check_peers(body) {

@@ -25,8 +25,7 @@ fn number_of(a: TableAnswer) -> u32
 }
 
 // The peers of a body in the first slots.
-#[unsafe(no_mangle)]
-pub extern "C" fn mrt_load_peers(body: &[u8], slots: &mut [Peer]) -> u32
+pub fn mrt_load_peers(body: &[u8], slots: &mut [Peer]) -> u32
     ensures answer { (slots.new, result) ≡ load_out (load_peers body.now slots.old) }
 {
     number_of(peers_read::load_peers(body, slots))

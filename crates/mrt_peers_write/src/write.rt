@@ -7,8 +7,7 @@ use mrt_lent::Wrote;
 use peers_entry::Peer;
 
 // A body at the front of the lent output, and how many octets it takes.
-#[unsafe(no_mangle)]
-pub extern "C" fn mrt_write_peers(
+pub fn mrt_write_peers(
     out: &mut [u8],
     collector: u32,
     view: &[u8],

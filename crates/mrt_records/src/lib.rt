@@ -18,8 +18,7 @@ struct Taken {
 
 // Records from the position of a lent walk on, as long as each passes all checks and has ten places. What stands after the last
 // one, `mrt_next` says.
-#[unsafe(no_mangle)]
-pub extern "C" fn mrt_records(s: &[u8], walk: &mut [u64], out: &mut [u64]) -> Handed
+pub fn mrt_records(s: &[u8], walk: &mut [u64], out: &mut [u64]) -> Handed
     ensures answer { (walk.new, (out.new, result))
         ≡ records_out s.now walk.old out.old }
 {

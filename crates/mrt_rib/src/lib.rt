@@ -10,8 +10,7 @@ use answer::Outcome;
 use mrt_lent::{put_values, refusal};
 
 // The head of a RIB body, and its prefix in 16 octets.
-#[unsafe(no_mangle)]
-pub extern "C" fn mrt_read_rib(body: &[u8], subtype: u16, out: &mut [u64], prefix: &mut [u8]) -> u32
+pub fn mrt_read_rib(body: &[u8], subtype: u16, out: &mut [u64], prefix: &mut [u8]) -> u32
     ensures answer { (out.new, (prefix.new, result))
         ≡ rib_out out.old prefix.old (rib_of body.now subtype) }
 {
@@ -42,8 +41,7 @@ pub extern "C" fn mrt_read_rib(body: &[u8], subtype: u16, out: &mut [u64], prefi
 }
 
 // How old a route was when its record was written, in seconds.
-#[unsafe(no_mangle)]
-pub extern "C" fn mrt_age(timestamp: u32, originated: u32) -> i64
+pub fn mrt_age(timestamp: u32, originated: u32) -> i64
     ensures answer { result ≡ age_of timestamp originated }
 {
     rib_head::age(timestamp, originated)

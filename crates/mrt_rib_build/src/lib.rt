@@ -9,8 +9,7 @@ ghost use Rattle.mrt_rib_build.specs.Build.{opened_out, push_out};
 use rib_write::{Builder, BuilderAnswer, NewEntry};
 
 // A builder at the end of a whole body.
-#[unsafe(no_mangle)]
-pub extern "C" fn mrt_open_rib(body: &[u8], subtype: u16, out: &mut [u64]) -> u32
+pub fn mrt_open_rib(body: &[u8], subtype: u16, out: &mut [u64]) -> u32
     ensures answer { (out.new, result) ≡ opened_out out.old (open_of body.now subtype) }
 {
     match rib_add::open_rib(body, subtype) {
@@ -23,8 +22,7 @@ pub extern "C" fn mrt_open_rib(body: &[u8], subtype: u16, out: &mut [u64]) -> u3
 }
 
 // One more entry where a builder stands, which is lent as its three values and moved.
-#[unsafe(no_mangle)]
-pub extern "C" fn mrt_push_entry(
+pub fn mrt_push_entry(
     out: &mut [u8],
     subtype: u16,
     builder: &mut [u64],

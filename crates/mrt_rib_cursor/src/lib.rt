@@ -9,8 +9,7 @@ use mrt_lent::{hand_out, refusal};
 use rib_entries::{Cursor, CursorAnswer, EntryAnswer, NextAnswer};
 
 // The entry i of a RIB body.
-#[unsafe(no_mangle)]
-pub extern "C" fn mrt_rib_entry(body: &[u8], subtype: u16, i: usize, out: &mut [u64]) -> u32
+pub fn mrt_rib_entry(body: &[u8], subtype: u16, i: usize, out: &mut [u64]) -> u32
     ensures answer { (out.new, result) ≡ entry_out out.old (entry_of body.now subtype i) }
 {
     match rib_entries::entry_at(body, subtype, i) {
@@ -29,8 +28,7 @@ pub extern "C" fn mrt_rib_entry(body: &[u8], subtype: u16, i: usize, out: &mut [
 }
 
 // The cursor at the first entry of a RIB body.
-#[unsafe(no_mangle)]
-pub extern "C" fn mrt_rib_first(body: &[u8], subtype: u16, out: &mut [u64]) -> u32
+pub fn mrt_rib_first(body: &[u8], subtype: u16, out: &mut [u64]) -> u32
     ensures answer { (out.new, result) ≡ placed_out out.old (first_of body.now subtype) }
 {
     match rib_entries::first_entry(body, subtype) {
@@ -45,14 +43,7 @@ pub extern "C" fn mrt_rib_first(body: &[u8], subtype: u16, out: &mut [u64]) -> u
 }
 
 // The entry at a cursor, and the cursor after it.
-#[unsafe(no_mangle)]
-pub extern "C" fn mrt_rib_next(
-    body: &[u8],
-    subtype: u16,
-    at: usize,
-    left: u16,
-    out: &mut [u64],
-) -> u32
+pub fn mrt_rib_next(body: &[u8], subtype: u16, at: usize, left: u16, out: &mut [u64]) -> u32
     ensures answer { (out.new, result)
         ≡ step_out out.old (next_of body.now subtype (record { at = at; left = left })) }
 {

@@ -17,13 +17,7 @@ struct Taken {
 }
 
 // Entries from a lent cursor on, as long as there are entries and each has five places. The cursor is moved past them.
-#[unsafe(no_mangle)]
-pub extern "C" fn mrt_rib_entries(
-    body: &[u8],
-    subtype: u16,
-    cursor: &mut [u64],
-    out: &mut [u64],
-) -> Handed
+pub fn mrt_rib_entries(body: &[u8], subtype: u16, cursor: &mut [u64], out: &mut [u64]) -> Handed
     ensures answer { (cursor.new, (out.new, result))
         ≡ entries_out body.now subtype cursor.old out.old }
 {

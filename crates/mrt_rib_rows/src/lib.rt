@@ -9,8 +9,7 @@ use mrt_lent::Handed;
 use rib_write::{Builder, RowsAnswer};
 
 // Rows of entries where a builder stands, which is lent as its three values and moved.
-#[unsafe(no_mangle)]
-pub extern "C" fn mrt_push_entries(
+pub fn mrt_push_entries(
     out: &mut [u8],
     subtype: u16,
     builder: &mut [u64],

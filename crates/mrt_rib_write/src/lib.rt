@@ -11,14 +11,7 @@ use mrt_lent::Wrote;
 use rib_write::NewEntry;
 
 // A body with no entry at the front of the lent output.
-#[unsafe(no_mangle)]
-pub extern "C" fn mrt_begin_rib(
-    out: &mut [u8],
-    subtype: u16,
-    sequence: u32,
-    bits: u8,
-    prefix: &[u8],
-) -> Wrote
+pub fn mrt_begin_rib(out: &mut [u8], subtype: u16, sequence: u32, bits: u8, prefix: &[u8]) -> Wrote
     ensures answer { (out.new, result) ≡ written_out (begin_from out.old subtype sequence bits prefix.now) }
 {
     if prefix.len() < 16 {
@@ -29,8 +22,7 @@ pub extern "C" fn mrt_begin_rib(
 }
 
 // One more entry in a body that fills the first len octets of the lent output.
-#[unsafe(no_mangle)]
-pub extern "C" fn mrt_add_entry(
+pub fn mrt_add_entry(
     out: &mut [u8],
     len: usize,
     subtype: u16,
