@@ -1,10 +1,11 @@
 // Lists the records and gaps of a dump: standard input in, a line for each to standard output.
 #![tactic(auto)]
 
-ghost use Rattle.std.specs.Prelude.{◌≡◌, length};
+ghost use Rattle.std.specs.Prelude.{◌≡◌, ◌≤◌, length, IfOk, vec_len};
 ghost use Rattle.listing_lines.specs.Listing.{room};
 
-use libc::{STDIN_FILENO, STDOUT_FILENO};
+use std::alloc::{AllocError, Global};
+use std::io::Read;
 
 // Room for one octet more than can be listed, so that longer input is seen.
 fn input_room() -> [u8; 65537]
@@ -14,16 +15,32 @@ fn input_room() -> [u8; 65537]
 }
 
 // Room for every listing.
-fn text_room() -> [u8; 1649589]
-    ensures { room ≡ length result }
+fn text_room(alloc: Global) -> Result<Vec<u8>, AllocError>
+    ensures { IfOk result (λ v. room ≡ vec_len v) }
 {
-    [0; 1649589]
+    Vec::from_elem(alloc, 0u8, 1649589)
 }
 
-fn main() {
+// A read or a write that fails is the end of the input or of the output, and shows nowhere else.
+fn main(rt: HostRuntime) -> Result<(), AllocError> {
     let mut input = input_room();
-    let n = io::read_full(STDIN_FILENO, &mut input);
-    let mut text = text_room();
+    let n = read_full(&mut rt.stdin(), &mut input);
+    let mut text = text_room(rt.alloc())?;
     let m = listing_lines::list(&input[..n], &mut text);
-    io::write_all(STDOUT_FILENO, &text[..m]);
+    let _ = rt.write_all(&text[..m]);
+    Ok(())
+}
+
+// Reads until the room is full, the input ends or a read fails, and answers how many octets stand in the room then.
+fn read_full<R: Read>(from: &mut R, room: &mut [u8]) -> usize
+    ensures { result ≤ length room.new }
+{
+    let mut n = 0;
+    while n < room.len() {
+        match from.read(&mut room[n..]) {
+            Ok(0) | Err(_) => return n,
+            Ok(more) => n += more,
+        }
+    }
+    n
 }

@@ -11,10 +11,14 @@ mod ribs;
 mod text;
 mod walks;
 
-ghost use Rattle.io.specs.Counts.{IsPrefixLen};
+ghost use Rattle.std.specs.Prelude.{◌≤◌, length};
 
 use crate::put::sum;
-use libc::STDOUT_FILENO;
+use std::alloc::AllocError;
+use std::env::{Env, FillError};
+use std::fs;
+use std::fs::Files;
+use std::io::Read;
 
 // Rooms for a list, a question and an answer. Questions of 65,535 RIB entries, and their answers, are the longest.
 const LIST: usize = 524288;
@@ -23,51 +27,105 @@ const QUESTION: usize = 1179648;
 
 const ANSWER: usize = 589824;
 
-fn main() {
-    let mut list = [0u8; LIST];
-    let mut rec = [0u8; QUESTION];
-    let mut out = [0u8; ANSWER];
-    replay(&mut list, &mut rec, &mut out);
+fn main(rt: HostRuntime) -> Result<(), AllocError> {
+    let alloc = rt.alloc();
+    let mut list = Vec::from_elem(alloc, 0u8, LIST)?;
+    let mut rec = Vec::from_elem(alloc, 0u8, QUESTION)?;
+    let mut out = Vec::from_elem(alloc, 0u8, ANSWER)?;
+    replay(&rt, &mut list, &mut rec, &mut out);
+    Ok(())
 }
 
-fn replay(list: &mut [u8; LIST], rec: &mut [u8; QUESTION], out: &mut [u8; ANSWER]) {
-    replay_lists(os::arg_count(), list, rec, out);
+fn replay<R: Env + Files + Print>(rt: &R, list: &mut [u8], rec: &mut [u8], out: &mut [u8]) {
+    replay_lists(rt, arg_count(rt), list, rec, out);
 }
 
 // The first word of a command line is the program's own name.
-fn replay_lists(words: usize, list: &mut [u8], rec: &mut [u8], out: &mut [u8]) {
+fn replay_lists<R: Env + Files + Print>(
+    rt: &R,
+    words: usize,
+    list: &mut [u8],
+    rec: &mut [u8],
+    out: &mut [u8],
+) {
     let mut i = 1;
     while i < words {
-        replay_list(i, list, rec, out);
+        replay_list(rt, i, list, rec, out);
         i += 1;
     }
 }
 
-fn replay_list(i: usize, list: &mut [u8], rec: &mut [u8], out: &mut [u8]) {
-    let n = read_list(i, list);
-    let lines = ask_lines(&list[..n], rec, out);
-    io::write_all(STDOUT_FILENO, b" ");
-    io::print_decimal(STDOUT_FILENO, lines as u64);
-    io::write_all(STDOUT_FILENO, b"\n");
+// A write that fails shows nowhere.
+fn replay_list<R: Env + Files + Print>(
+    rt: &R,
+    i: usize,
+    list: &mut [u8],
+    rec: &mut [u8],
+    out: &mut [u8],
+) {
+    let n = read_list(rt, i, list);
+    let lines = ask_lines(rt, &list[..n], rec, out);
+    let _ = println!(rt; " {lines}");
 }
 
 // Writes the name of the list of argument i, and reads it. One that is not there has no line, and one that is longer than
 // its room loses what has none: its last line, if not its count, is then wrong.
-fn read_list(i: usize, list: &mut [u8]) -> usize
-    ensures { IsPrefixLen result list.new }
+fn read_list<R: Env + Files + Print>(rt: &R, i: usize, list: &mut [u8]) -> usize
+    ensures { result ≤ length list.new }
 {
-    let mut path = io::buffer();
-    let length = os::arg(i, &mut path);
+    let mut path = [0u8; 4096];
+    let length = arg(rt, i, &mut path);
     let name = &path[..length];
-    io::write_all(STDOUT_FILENO, name);
-    let file = os::open_read(name);
-    let n = io::read_full(file, list);
-    libc::close(file);
+    let _ = rt.write_all(name);
+    match open(rt, name) {
+        Some(mut file) => read_full(&mut file, list),
+        None => 0,
+    }
+}
+
+// The file of this name, where it can be opened.
+fn open<R: Files>(rt: &R, name: &[u8]) -> Option<R::File> {
+    let path = str::from_utf8(name).ok()?;
+    fs::open(rt, path).ok()
+}
+
+// Reads until the room is full, the input ends or a read fails, and answers how many octets stand in the room then.
+fn read_full<R: Read>(from: &mut R, room: &mut [u8]) -> usize
+    ensures { result ≤ length room.new }
+{
+    let mut n = 0;
+    while n < room.len() {
+        match from.read(&mut room[n..]) {
+            Ok(0) | Err(_) => return n,
+            Ok(more) => n += more,
+        }
+    }
     n
 }
 
+// How many words the command line has: the list of arguments ends at the first that is missing.
+fn arg_count<R: Env>(rt: &R) -> usize {
+    let mut none = [];
+    for i in 0..usize::MAX {
+        if let Err(FillError::NotPresent) = rt.arg(i, &mut none) {
+            return i;
+        }
+    }
+    usize::MAX
+}
+
+// Argument i at the front of the room: how many octets it has there, 0 where it is missing or longer.
+fn arg<R: Env>(rt: &R, i: usize, room: &mut [u8]) -> usize
+    ensures { result ≤ length room.new }
+{
+    match rt.arg(i, room) {
+        Ok(n) => n,
+        Err(_) => 0,
+    }
+}
+
 // Each line of a list: those that are answered otherwise are named, and the answer is how many lines there are.
-fn ask_lines(list: &[u8], rec: &mut [u8], out: &mut [u8]) -> usize {
+fn ask_lines<P: Print>(rt: &P, list: &[u8], rec: &mut [u8], out: &mut [u8]) -> usize {
     let n = list.len();
     let mut lines = 0;
     let mut at = 0;
@@ -75,7 +133,7 @@ fn ask_lines(list: &[u8], rec: &mut [u8], out: &mut [u8]) -> usize {
         let end = text::line_end(list, at);
         lines = sum(lines, 1);
         if !ask::ask_line(&list[at..end], rec, out) {
-            report(lines);
+            report(rt, lines);
         }
         if n <= end {
             return lines;
@@ -85,8 +143,6 @@ fn ask_lines(list: &[u8], rec: &mut [u8], out: &mut [u8]) -> usize {
     lines
 }
 
-fn report(line: usize) {
-    io::write_all(STDOUT_FILENO, b" line ");
-    io::print_decimal(STDOUT_FILENO, line as u64);
-    io::write_all(STDOUT_FILENO, b" differs,");
+fn report<P: Print>(rt: &P, line: usize) {
+    let _ = print!(rt; " line {line} differs,");
 }

@@ -1,6 +1,6 @@
 // Numbers into an answer, and out of a question, eight octets each. A store answers where the next one goes; what has no
 // room is dropped.
-ghost use Rattle.io.specs.Counts.{IsPrefixLen};
+ghost use Rattle.std.specs.Prelude.{◌≤◌, length};
 
 use answer::Refusal;
 
@@ -39,7 +39,7 @@ pub(crate) fn sixteen(out: &mut [u8], at: usize, v: &[u8; 16]) -> usize {
 
 // Lent memory before a call, at the front of the answer: how many octets it has.
 pub(crate) fn lend(out: &mut [u8], s: &[u8]) -> usize
-    ensures { IsPrefixLen result out.new }
+    ensures { result ≤ length out.new }
 {
     octets_copies::put_octets(out, 0, s);
     if out.len() < s.len() {

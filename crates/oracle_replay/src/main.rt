@@ -1,95 +1,153 @@
 // Lists every stream that an argument names: NAME.mrt, held to the oracle's NAME.listing.
 #![tactic(auto)]
 
-ghost use Rattle.std.specs.Prelude.{◌≤◌};
+ghost use Rattle.std.specs.Prelude.{◌≤◌, length};
 
-use libc::STDOUT_FILENO;
+use std::alloc::AllocError;
+use std::env::{Env, FillError};
+use std::fs;
+use std::fs::Files;
+use std::io::Read;
 
 // One octet more than can be listed, so that a longer stream is seen.
 const STREAM: usize = 65537;
 // One octet more than any listing has, so that a longer file is seen.
 const TEXT: usize = 1649590;
 
-fn main() {
-    let mut stream = [0u8; STREAM];
-    let mut text = [0u8; TEXT];
-    let mut expected = [0u8; TEXT];
-    replay_named(&mut stream, &mut text, &mut expected);
+fn main(rt: HostRuntime) -> Result<(), AllocError> {
+    let alloc = rt.alloc();
+    let mut stream = Vec::from_elem(alloc, 0u8, STREAM)?;
+    let mut text = Vec::from_elem(alloc, 0u8, TEXT)?;
+    let mut expected = Vec::from_elem(alloc, 0u8, TEXT)?;
+    replay_named(&rt, &mut stream, &mut text, &mut expected);
+    Ok(())
 }
 
-// The first word of a command line is the program's own name.
-fn replay_named(stream: &mut [u8; STREAM], text: &mut [u8; TEXT], expected: &mut [u8; TEXT]) {
-    let words = os::arg_count();
+// The first word of a command line is the program's own name. A write that fails shows nowhere.
+fn replay_named<R: Env + Files + Print>(
+    rt: &R,
+    stream: &mut [u8],
+    text: &mut [u8],
+    expected: &mut [u8],
+) {
+    let words = arg_count(rt);
     if words == 0 {
         return;
     }
-    let wrong = replay_all(words, stream, text, expected);
-    io::print_decimal(STDOUT_FILENO, (words - 1) as u64);
-    io::write_all(STDOUT_FILENO, b" streams, ");
-    io::print_decimal(STDOUT_FILENO, wrong);
-    io::write_all(STDOUT_FILENO, b" listed otherwise\n");
+    let wrong = replay_all(rt, words, stream, text, expected);
+    let streams = words - 1;
+    let _ = println!(rt; "{streams} streams, {wrong} listed otherwise");
 }
 
 // How many of the named streams are listed otherwise.
-fn replay_all(words: usize, stream: &mut [u8], text: &mut [u8], expected: &mut [u8]) -> u64 {
+fn replay_all<R: Env + Files + Print>(
+    rt: &R,
+    words: usize,
+    stream: &mut [u8],
+    text: &mut [u8],
+    expected: &mut [u8],
+) -> u64 {
     let mut wrong = 0;
     let mut i = 1;
     while i < words {
-        wrong += replay(i, stream, text, expected);
+        wrong += replay(rt, i, stream, text, expected);
         i += 1;
     }
     wrong
 }
 
 // 0 where the stream of argument i is listed as it should be; otherwise 1, and its name is written.
-fn replay(i: usize, stream: &mut [u8], text: &mut [u8], expected: &mut [u8]) -> u64
+fn replay<R: Env + Files + Print>(
+    rt: &R,
+    i: usize,
+    stream: &mut [u8],
+    text: &mut [u8],
+    expected: &mut [u8],
+) -> u64
     ensures { result ≤ 1 }
 {
-    let mut path = io::buffer();
-    let length = os::arg(i, &mut path);
+    let mut path = [0u8; 4096];
+    let length = arg(rt, i, &mut path);
     let name = &path[..length];
-    if agrees(name, stream, text, expected) {
+    if agrees(rt, name, stream, text, expected) {
         return 0;
     }
-    io::write_all(STDOUT_FILENO, name);
-    io::write_all(STDOUT_FILENO, b" is listed otherwise\n");
+    let _ = rt.write_all(name);
+    let _ = rt.write_all(b" is listed otherwise\n");
     1
 }
 
-fn agrees(name: &[u8], stream: &mut [u8], text: &mut [u8], expected: &mut [u8]) -> bool {
-    let dump = open(name, b".mrt");
-    if dump < 0 {
+fn agrees<R: Files>(
+    rt: &R,
+    name: &[u8],
+    stream: &mut [u8],
+    text: &mut [u8],
+    expected: &mut [u8],
+) -> bool {
+    let Some(mut dump) = open(rt, name, b".mrt") else {
         return false;
-    }
-    let n = io::read_full(dump, stream);
-    libc::close(dump);
-    let listing = open(name, b".listing");
-    if listing < 0 {
+    };
+    let n = read_full(&mut dump, stream);
+    let Some(mut listing) = open(rt, name, b".listing") else {
         return false;
-    }
-    let k = io::read_full(listing, expected);
-    libc::close(listing);
+    };
+    let k = read_full(&mut listing, expected);
     let m = listing_lines::list(&stream[..n], text);
     if text.len() < m {
         return false;
     }
-    check::same(&text[..m], &expected[..k])
+    &text[..m] == &expected[..k]
 }
 
-// The file whose name has this ending, or a negative number where it cannot be opened.
-fn open(name: &[u8], ending: &[u8]) -> i32 {
-    let mut path = io::buffer();
+// The file whose name has this ending, where it can be opened.
+fn open<R: Files>(rt: &R, name: &[u8], ending: &[u8]) -> Option<R::File> {
+    let mut path = [0u8; 4096];
     let length = name.len();
     let size = ending.len();
     if 4096 < size {
-        return -1;
+        return None;
     }
     if 4096 - size < length {
-        return -1;
+        return None;
     }
     let end = length + size;
-    let view: &mut [u8] = &mut path;
-    octets_copies::put_octets(view, 0, name);
-    octets_copies::put_octets(view, length, ending);
-    os::open_read(&path[..end])
+    octets_copies::put_octets(&mut path, 0, name);
+    octets_copies::put_octets(&mut path, length, ending);
+    let path = str::from_utf8(&path[..end]).ok()?;
+    fs::open(rt, path).ok()
+}
+
+// Reads until the room is full, the input ends or a read fails, and answers how many octets stand in the room then.
+fn read_full<R: Read>(from: &mut R, room: &mut [u8]) -> usize
+    ensures { result ≤ length room.new }
+{
+    let mut n = 0;
+    while n < room.len() {
+        match from.read(&mut room[n..]) {
+            Ok(0) | Err(_) => return n,
+            Ok(more) => n += more,
+        }
+    }
+    n
+}
+
+// How many words the command line has: the list of arguments ends at the first that is missing.
+fn arg_count<R: Env>(rt: &R) -> usize {
+    let mut none = [];
+    for i in 0..usize::MAX {
+        if let Err(FillError::NotPresent) = rt.arg(i, &mut none) {
+            return i;
+        }
+    }
+    usize::MAX
+}
+
+// Argument i at the front of the room: how many octets it has there, 0 where it is missing or longer.
+fn arg<R: Env>(rt: &R, i: usize, room: &mut [u8]) -> usize
+    ensures { result ≤ length room.new }
+{
+    match rt.arg(i, room) {
+        Ok(n) => n,
+        Err(_) => 0,
+    }
 }
