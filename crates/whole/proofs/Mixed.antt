@@ -224,6 +224,7 @@ module _ (s : List ℕ) (window k : ℕ) where
   answered-shown : (l : List Made) (xs : List Stepped) → Shows l xs → answered l ≤ length xs
   unfolding answered
   answered-shown [] [] none = omega arith
+  answered-shown [] (x ∷ xs) x3 = elim x3 [ ]
   answered-shown (one places walk left n ∷ l) (x ∷ xs) (next y q h) = by_room (leb 10 (length places)) (answered-shown l xs h)
     where
       by_room : (t : Bool) → answered l ≤ length xs → cond t (suc (answered l)) (answered l) ≤ suc (length xs)

@@ -1,6 +1,5 @@
 use Rattle.octets_address.proofs.Addresses.{address_le}
 use Rattle.dump_layout.proofs.Checks.{check_other, check_unmet, check-met}
-use borrow.Author.Rules.{rules}
 use mathlib.Core.Bool.{not}
 use mathlib.Core.Path.{ap}
 use Rattle.dump_layout.proofs.check.check_dump.Goals as goal

@@ -1,5 +1,4 @@
 use Rattle.dump_layout.proofs.Checks.{filled_short, filled_other, filled-bits}
-use borrow.Author.Rules.{rules}
 use Rattle.dump_layout.proofs.check.is_filled.Goals as goal
 
 pub returns-then-n-start : goal.returns-then-n-start

@@ -1,5 +1,4 @@
 use Rattle.dump_read.proofs.Bodies.{head_there, fields_are}
-use borrow.Author.Rules.{rules}
 use Rattle.dump_read.proofs.body.fields.Goals as goal
 
 pub slice_bounds-head-end : goal.slice_bounds-head-end

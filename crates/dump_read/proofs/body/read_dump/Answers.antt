@@ -3,7 +3,6 @@ use mathlib.Core.Path.{◌∙◌}
 use native.Mathlib.Omega.{arith}
 use Rattle.octets_address.proofs.Addresses.{address_le}
 use Rattle.dump_read.proofs.Bodies.{dump_unmet, front_there, dump-met}
-use borrow.Author.Rules.{rules}
 use Rattle.dump_read.proofs.body.read_dump.Goals as goal
 
 pub overflow_mul-start : goal.overflow_mul-start
@@ -26,5 +25,6 @@ returns-in-Refused c = record { answer = c.refused.ensures ∙ dump_unmet _ _ _ 
 pub returns-in-Accepted : goal.returns-in-Accepted
 returns-in-Accepted c = record {
   answer =
-    dump-met _ _ _ c.check_dump.ensures.answer c.in-Accepted.is c.address_size-x.ensures.answer
-    c.fields.ensures }
+      dump-met _ _ _ c.check_dump.ensures.answer c.in-Accepted.is c.address_size-x.ensures.answer
+      c.fields.ensures;
+}

@@ -1,5 +1,4 @@
 use Rattle.dump_write.proofs.Answers.{unfit-bits, unfit_as, fit-rest}
-use borrow.Author.Rules.{rules}
 use Rattle.dump_write.proofs.write.is_fit.Goals as goal
 
 pub returns-then-x-d : goal.returns-then-x-d

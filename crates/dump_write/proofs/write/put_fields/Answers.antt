@@ -6,7 +6,6 @@ use lib.Dec.{eqb}
 use Rattle.octets.proofs.Stores.{length-patch}
 use Rattle.octets_address.proofs.Addresses.{size-le}
 use Rattle.dump_write.proofs.Stored.{fields-stored}
-use borrow.Author.Rules.{rules}
 use Rattle.dump_write.proofs.write.put_fields.Goals as goal
 
 pub overflow_mul-x : goal.overflow_mul-x

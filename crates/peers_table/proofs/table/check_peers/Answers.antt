@@ -1,10 +1,6 @@
 use Rattle.peers_entry.specs.Peer.{peer_size}
 use Rattle.peers_table.proofs.Tables.{short_head, short_name, short_peer, held, end_none, end_turn, count_at_lem, first-at}
-use Rattle.peers_table.specs.Table.{end_at, first_peer}
-use lib.ListN.{length}
-use mathlib.Core.Path.{◌≡◌, ◌∙◌, ap}
-use Prim.Native.Nat.{◌≤◌, ◌-◌}
-use borrow.Author.Rules.{rules}
+use mathlib.Core.Path.{◌∙◌, ap}
 use native.Mathlib.Omega.{arith}
 use Rattle.peers_table.proofs.table.check_peers.Goals as goal
 
