@@ -27,11 +27,14 @@ abbrev ◌&◌ : {A B : Type 0} → A → B → A × B
 a & b = (a, b)
 
 pub table : Hold rows
-unfolding rows be_at bytes_of ones over past ◌>>=◌ known timed size header header_at framed frame wide size_of address_size as_size peer_size
+unfolding rows be_at bytes_of ones over past ◌>>=◌ known timed size header header_at framed frame wide size_of address_size as_size
+    peer_size
     end_at name_length peer_count first_peer last_end check_peers ipv4 ipv6 pathed carried most_bits path_size prefix_size bits_of count_at
     declared entries_at readable check_rib attributes_at entry_end fits passed read_count rib_of message_bounds message as_sizes bgp_as_size
-    family_size state_change tail envelope bgp4mp when_fit when_stands when_whole aligned row_from row_on row scan unfound leave scanned resume
-    own_end judged going step type_carried table_dump_v2 check_of check verdict judge judge_at judgement_at taken_up evidence plausible standing
+    family_size state_change tail envelope bgp4mp when_fit when_stands when_whole aligned row_from row_on row scan unfound leave scanned
+    resume
+    own_end judged going step type_carried table_dump_v2 check_of check verdict judge judge_at judgement_at taken_up evidence plausible
+    standing
     headed candidate candidate_at
 table =
     refl & refl & refl & refl & refl & refl & refl & refl & refl & refl & refl

@@ -180,7 +180,8 @@ module _ (x : ℕ) (d : Dump) (attributes : List ℕ) where
       let o = number (to_originated x d) from_peer (6 + x) 4 d.originated parted_peer (originated-at x d) w.originated in
       let a = number (to_as x d) from_length (10 + 2 * x) 2 d.asn parted_length (as_at x d) w.asn in
       let t : get_or all (5 + x) 0 ≡ d.status =
-      ap (λ (s : List ℕ). get_or s (5 + x) 0) parted_status ∙ get_or_at (to_status x d) d.status from_originated 0 (5 + x) (status_at x d) in
+      ap (λ (s : List ℕ). get_or s (5 + x) 0) parted_status
+      ∙ get_or_at (to_status x d) d.status from_originated 0 (5 + x) (status_at x d) in
       let p : octets_at all 4 x ≡ octets_at d.prefix 0 x =
       ap (λ (s : List ℕ). octets_at s 4 x) parted_bits
       ∙ octets_between (to_prefix x d) (octets_at d.prefix 0 x) from_bits 4 x (prefix-at x d) (length-octets d.prefix 0 x) in

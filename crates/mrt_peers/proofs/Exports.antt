@@ -37,7 +37,16 @@ module _ (count kind : ℕ) (addr : List ℕ) {n : ℕ} {l : List ℕ} (n-is : n
   key_is = rw (n-is, l-is)
 
   pub fresh_is : (id asn : ℕ)
-      → ◌≡◌ {A = Fresh} (record { count = n; peer = record { kind = kind; id = id; addr = l; asn = asn } }) (fresh_of count kind id addr asn)
+      → ◌≡◌ {A = Fresh} (record {
+        count = n;
+        peer = record {
+          kind = kind;
+          id = id;
+          addr = l;
+          asn =
+              asn;
+        };
+      }) (fresh_of count kind id addr asn)
   unfolding fresh_of peer_for
   fresh_is id asn = rw (n-is, l-is)
 

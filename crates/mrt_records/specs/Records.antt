@@ -29,6 +29,7 @@ records_handed ws out r = (set ws 0 r.after, (patch out 0 r.values, rows_handed 
 abbrev pub records_out : List ℕ → List ℕ → List ℕ → List ℕ × (List ℕ × Handed)
 records_out s ws out =
     on_walk (length s) ws out
-    (cond (eqb (get_or ws 1 0) 1) (ws, (out, rows_handed 0)) (records_handed ws out (rows_from (record_at s) (length out / 10) (get_or ws 0 0))))
+    (cond (eqb (get_or ws 1 0) 1) (ws, (out, rows_handed 0)) (records_handed ws out
+    (rows_from (record_at s) (length out / 10) (get_or ws 0 0))))
     (ws, (out, none_handed 9))
     (ws, (out, none_handed 8))

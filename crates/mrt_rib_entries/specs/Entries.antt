@@ -35,6 +35,7 @@ unfoldable pub entries_out : List ℕ → ℕ → List ℕ → List ℕ → List
 entries_out s t cs out =
     cond (holds_cursor s cs)
     (cond (carried t)
-    (cond (leb 5 (length out)) (entries_handed cs out (rows_from (entry_at s t) (length out / 5) (cursor_in cs))) (cs, (out, none_handed 9)))
+    (cond (leb 5 (length out)) (entries_handed cs out (rows_from (entry_at s t) (length out / 5) (cursor_in cs)))
+    (cs, (out, none_handed 9)))
     (cs, (out, none_handed 6)))
     (cs, (out, none_handed 8))

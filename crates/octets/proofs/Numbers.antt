@@ -65,7 +65,8 @@ digit x y z w l k false u p q = sym (ne_eqb (x * 256 + y) (z * 256 + w) (λ e. e
 pub be_same : (a b : List ℕ) (at n : ℕ) → Octets a → Octets b
     → (eqb (be_at a at n) (be_at b at n) && eqb (get_or a (at + n) 0) (get_or b (at + n) 0)) ≡ eqb (be_at a at (suc n)) (be_at b at (suc n))
 unfolding be_at
-be_same a b at n o p = digit (be_at a at n) (get_or a (at + n) 0) (be_at b at n) (get_or b (at + n) 0) (o (at + n)) (p (at + n)) _ _ refl refl
+be_same a b at n o p = digit (be_at a at n) (get_or a (at + n) 0) (be_at b at n) (get_or b (at + n) 0) (o (at + n)) (p (at + n)) _ _ refl
+    refl
 
 pub length_bytes : (n v : ℕ) → length (bytes_of n v) ≡ n
 unfolding bytes_of

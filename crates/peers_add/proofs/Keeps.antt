@@ -36,7 +36,8 @@ module _ (l : List Peer) (count : ℕ) (p : Peer) where
   case : Case (add_peer l count p)
   unfolding add_peer
   case =
-      by_tests (wrong_count (length l) count) refl (eqb (look_up l count p).number 0) refl (leb 65535 count) refl (leb (length l) count) refl
+      by_tests (wrong_count (length l) count) refl (eqb (look_up l count p).number 0) refl (leb 65535 count) refl (leb (length l) count)
+      refl
     where
       by_tests : (a : Bool) → wrong_count (length l) count ≡ a → (b : Bool) → eqb (look_up l count p).number 0 ≡ b → (c : Bool)
           → leb 65535 count ≡ c → (d : Bool) → leb (length l) count ≡ d

@@ -14,7 +14,8 @@ use Rattle.peers_entry.specs.Peer.{address_size, same_octets, low_first}
 use Rattle.peers_entry.proofs.Sizes.{address_either}
 
 -- the first octet highest
-high : (s : List ℕ) (at : ℕ) → ((get_or s at 0 * 256 + get_or s (at + 1) 0) * 256 + get_or s (at + 2) 0) * 256 + get_or s (at + 3) 0 ≡ be_at s at 4
+high : (s : List ℕ) (at : ℕ) → ((get_or s at 0 * 256 + get_or s (at + 1) 0) * 256 + get_or s (at + 2) 0) * 256 + get_or s (at + 3) 0
+    ≡ be_at s at 4
 high s at =
     let two = be_halves s at 1 1 (be_one s at) (be_one s (at + 1)) in
     let three = be_halves s at 2 1 two (be_one s (at + 2)) in

@@ -26,7 +26,8 @@ module _ (s : List ℕ) (at kind : ℕ) {w h : ℕ} (sized : w ≡ as_size kind)
   first_two : h ≡ be_at s at 2
   first_two = high ∙ be_front s at (at + 2) 2 (omega arith)
 
-  pub as_read_long : {l : ℕ} → w ≡ 4 → l ≡ be_at (part s (at + w - 2) (at + w - (at + w - 2))) 0 2 → h * 65536 + l ≡ be_at s at (as_size kind)
+  pub as_read_long : {l : ℕ} → w ≡ 4 → l ≡ be_at (part s (at + w - 2) (at + w - (at + w - 2))) 0 2
+      → h * 65536 + l ≡ be_at s at (as_size kind)
   as_read_long {l} e low =
       let z : at + w - 2 ≡ at + 2 = omega arith in
       let two : l ≡ be_at s (at + 2) 2 = low ∙ be_front s (at + w - 2) (at + w) 2 (omega arith) ∙ ap (λ (k : ℕ). be_at s k 2) z in

@@ -33,7 +33,8 @@ octets_alike (suc n) a b = (
         by_test true u = let e : i ≡ n = eqb-true i n u in rw e (eqb-true _ _ t.1)
         by_test false u = let e : i ≡ n → ⊥ = eqb-false i n u in f t.0 i (omega arith)
 
-    together : (Alike n a b → same_octets n a b ≡ true) → Alike (suc n) a b → (same_octets n a b && eqb (get_or a n 0) (get_or b n 0)) ≡ true
+    together : (Alike n a b → same_octets n a b ≡ true) → Alike (suc n) a b
+        → (same_octets n a b && eqb (get_or a n 0) (get_or b n 0)) ≡ true
     together f g = simp (f (λ i h. g i (omega arith)), eq-eqb _ _ (g n (omega arith)))
 
 -- the peer p has the address of this family, odd or even, and of these octets

@@ -1,6 +1,7 @@
 -- One peer of a PEER_INDEX_TABLE (RFC 6396, 4.3.1; 01, Peer table): Peer Type 1, Peer BGP ID 4, Peer IP Address 4 or 16,
 -- Peer AS 2 or 4. Of the type, value 1 means an IPv6 address and value 2 an AS of four octets; other bits are kept.
-use Rattle.std.specs.Prelude.{ℕ, zero, suc, ◌+◌, ◌*◌, ◌/◌, ◌%◌, List, [], ◌∷◌, ◌++◌, Bool, true, cond, not, ◌&&◌, length, get_or, replicate, leb, ltb, eqb}
+use Rattle.std.specs.Prelude.{ℕ, zero, suc, ◌+◌, ◌*◌, ◌/◌, ◌%◌, List, [], ◌∷◌, ◌++◌, Bool, true, cond, not, ◌&&◌, length, get_or}
+use Rattle.std.specs.Prelude.{replicate, leb, ltb, eqb}
 use Rattle.answer.specs.Refusal.{outcome_number}
 use Rattle.octets.specs.Octets.{be_at, bytes_of, patch}
 use Rattle.octets_address.specs.Address.{size_of, octets_at, address_at}

@@ -81,7 +81,8 @@ module _ (s : List ℕ) where
       let w : end_at s (first_peer s) (i + 1) ≤ last_end s = within (i + 1) (omega arith) in
       over (omega arith)
 
-  pub held : {c l n f e i : ℕ} → c ≡ be_at s 0 4 → l ≡ be_at s 4 2 → n ≡ peer_count s → f ≡ first_peer s → e ≡ end_at s (first_peer s) i → i ≤ n
+  pub held : {c l n f e i : ℕ} → c ≡ be_at s 0 4 → l ≡ be_at s 4 2 → n ≡ peer_count s → f ≡ first_peer s → e ≡ end_at s (first_peer s) i
+      → i ≤ n
       → n ≤ i → e ≤ length s
       → record { number = 0; collector = c; name = 6; length = l; count = n; first = f; end = e } ≡ check_peers s
   unfolding check_peers name_length

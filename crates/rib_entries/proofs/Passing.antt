@@ -103,7 +103,8 @@ module _ (p : ℕ) (s : List ℕ) (at : ℕ) where
   passed_stop zero h f = absurd (omega arith)
 
 -- an entry that was read is passed
-pub passed_read : (p : ℕ) (s : List ℕ) (at n : ℕ) → 0 < n → (a : EntryAnswer) → entry_values a ≡ entry_here p s at → {e : Entry} → a ≡ Read e
+pub passed_read : (p : ℕ) (s : List ℕ) (at n : ℕ) → 0 < n → (a : EntryAnswer) → entry_values a ≡ entry_here p s at → {e : Entry}
+    → a ≡ Read e
     → passed p s at n ≡ passed p s e.end (n - 1)
 passed_read p s at n h a said v = rw (here_end p s at a said v) (passed_on p s at n h (here_fits p s at a said v))
 

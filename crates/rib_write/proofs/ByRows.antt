@@ -221,7 +221,8 @@ module _ {s : List ℕ} {t : ℕ} {b : Builder} (w : Stands s t b) (rs : List �
   -- a row that goes in fits
   pub row_fits : (push_row s t b rs at buffer).number ≡ 0 → (b.count ≡ 65535 → ⊥) × Fitting
   unfolding push_after
-  row_fits z = by_tests _ (askable rs at (length buffer)) refl _ refl (ltb (length s - b.len) (length row_octets)) refl (rw push_after_lem at z)
+  row_fits z = by_tests _ (askable rs at (length buffer)) refl _ refl (ltb (length s - b.len) (length row_octets)) refl
+      (rw push_after_lem at z)
     where
       by_tests : (d : Pushing) (x : Bool) → askable rs at (length buffer) ≡ x → (y : Bool)
           → y ≡ unfit b.count t (get_or rs (at + 2) 0) (length (attributes_in rs at buffer)) → (r : Bool)

@@ -130,7 +130,8 @@ module _ (s : List ℕ) (p : ℕ) where
     not_begun e = rw (candidate-left l, candidate-over (drop p s) p, e)
 
     -- nor does one that was read and is not plausible
-    not-plausible : ((over (drop p s) header).number ≡ 0 → false ≡ plausible-head (over (drop p s) header)) → fails ≡ over s (candidate_at p)
+    not-plausible : ((over (drop p s) header).number ≡ 0 → false ≡ plausible-head (over (drop p s) header))
+        → fails ≡ over s (candidate_at p)
     not-plausible h = not_begun (by_number (eqb (over (drop p s) header).number 0) refl)
       where
         by_number : (t : Bool) → eqb (over (drop p s) header).number 0 ≡ t → (t && plausible-head (over (drop p s) header)) ≡ false

@@ -1,5 +1,6 @@
 -- The modular fact, over the width: how far a number of w bits lies after another, and what is told of it.
-use Rattle.std.proofs.Common.{◌≡◌, ℕ, ◌+◌, ◌-◌, ◌%◌, ◌^◌, ◌<◌, ◌≤◌, Bool, true, false, leb, ◌↔◌, List, [], ◌∷◌, get_or, sym, refl, ap, ◌∙◌, mod-eq_of_lt, arith, eq-eqb, ne_eqb, leb-false, leb-true}
+use Rattle.std.proofs.Common.{◌≡◌, ℕ, ◌+◌, ◌-◌, ◌%◌, ◌^◌, ◌<◌, ◌≤◌, Bool, true, false, leb, ◌↔◌, List, [], ◌∷◌, get_or, sym, refl, ap}
+use Rattle.std.proofs.Common.{◌∙◌, mod-eq_of_lt, arith, eq-eqb, ne_eqb, leb-false, leb-true}
 use native.Mathlib.Nat.{mod-eq-sub-mod}
 use Rattle.walk_missing.specs.Turned.{width, apart, shown, since}
 

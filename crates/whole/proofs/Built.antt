@@ -77,7 +77,11 @@ module _ (t : ℕ) (h : Front) (w : Sound t h) (gs : List Given) (k : Fitting t 
   declared_built = declared-at h (length gs) (entries_octets (path_size t) gs) w.full (body t h gs) (body-split t h gs) k.count
 
   -- all of its entries are passed, to its end
-  pub passed_all : passed (path_size t) (body t h gs) (entries_at (body t h gs)) (length gs) ≡ record { at = length (body t h gs); left = 0 }
+  pub passed_all : passed (path_size t) (body t h gs) (entries_at (body t h gs)) (length gs) ≡ record {
+    at = length (body t h gs);
+    left =
+        0;
+  }
   passed_all =
       let f : List ℕ = head_of h (length gs) in
       let e : List ℕ = entries_octets (path_size t) gs in

@@ -100,7 +100,8 @@ module _ (s : List ℕ) (t : ℕ) (c : carried t ≡ true) where
       (λ f. absurd (let m = rw f at z in omega arith))
 
 -- a row is the entry that it was handed out for
-module _ (s : List ℕ) (t at : ℕ) (f : fits (path_size t) s at ≡ true) (y : Typed (given_at (path_size t) s at)) (before after : List ℕ) where
+module _ (s : List ℕ) (t at : ℕ) (f : fits (path_size t) s at
+    ≡ true) (y : Typed (given_at (path_size t) s at)) (before after : List ℕ) where
   abbrev among : List ℕ
   among = before ++ (values_at (path_size t) s at ++ after)
 
@@ -123,7 +124,8 @@ module _ (s : List ℕ) (t at : ℕ) (f : fits (path_size t) s at ≡ true) (y :
       }
 
   row_given : (x : List ℕ) (b : Builder)
-      → push_row x t b among (length before) s ≡ push_entry x t b (given_at (path_size t) s at).entry (given_at (path_size t) s at).attributes
+      → push_row x t b among (length before) s ≡ push_entry x t b (given_at (path_size t) s at).entry
+      (given_at (path_size t) s at).attributes
   unfolding push_row given_at entry_end attributes_at
   row_given x b =
       let p : ℕ = path_size t in

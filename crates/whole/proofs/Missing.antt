@@ -243,7 +243,8 @@ lent_counted s k t cs out ds ts e = by_room (holds_counters cs) (leb 3 (length o
   where
     by_room : (a b : Bool) → holds_counters cs ≡ a
         → (ds, (ts, 0)) ≡ cond a (cond b (counted_out cs out (count (counters_in cs) k t s)) (cs, (out, 9))) (cs, (out, 8))
-        → (counters_in ds ≡ (count (counters_in cs) k t s).counters) × (ts ≡ patch out 0 (missing_values (count (counters_in cs) k t s).told))
+        → (counters_in ds ≡ (count (counters_in cs) k t s).counters)
+        × (ts ≡ patch out 0 (missing_values (count (counters_in cs) k t s).told))
     by_room true true h q = (
       ap (λ (x : List ℕ × (List ℕ × ℕ)). counters_in x.0) q ∙ held_again cs (count (counters_in cs) k t s).counters (four_held cs h),
       ap (λ (x : List ℕ × (List ℕ × ℕ)). x.1.0) q,

@@ -59,7 +59,8 @@ module _ (s : List ℕ) (slots : ℕ) where
       by_slots e true t = simp (e, t) (λ z. absurd (omega arith))
       by_slots e false t = λ z. (leb-true _ _ e, ltb-false _ _ t)
 
-      by_body : (t : Bool) → leb (last_end s) (length s) ≡ t → (head_for s slots).number ≡ 0 → (last_end s ≤ length s) × (peer_count s ≤ slots)
+      by_body : (t : Bool) → leb (last_end s) (length s) ≡ t → (head_for s slots).number ≡ 0
+          → (last_end s ≤ length s) × (peer_count s ≤ slots)
       by_body true e = by_slots e (ltb slots (peer_count s)) refl
       by_body false e = simp (e, le-ltb slots 0 (let z : 0 ≤ slots = omega arith in z)) (λ z. absurd (omega arith))
 
@@ -205,15 +206,19 @@ peers-at l n zero r = (
       ∙ drop_at (peers_octets l n) (peer_octets (get_or l n nobody) ++ r) (sizes l n) (length-peers l n)),
 )
 peers-at l n (suc k) r =
-    let h = peers-at l n k (peer_octets (get_or l (k + suc n) nobody) ++ r) in
-    (h.0, rw suc-add (ap (drop (sizes l n)) (append_assoc (peers_octets l (k + suc n)) (peer_octets (get_or l (k + suc n) nobody)) r) ∙ h.1))
+    let h = peers-at l n k (peer_octets (get_or l (k + suc n) nobody) ++ r) in (
+      h.0,
+      rw suc-add (ap (drop (sizes l n)) (append_assoc (peers_octets l (k + suc n)) (peer_octets (get_or l (k + suc n) nobody)) r)
+          ∙ h.1),
+    )
 
 fit_at : (l : List Peer) (n i : ℕ) → any_unfit l n ≡ false → i < n → unfit (get_or l i nobody) ≡ false
 unfolding any_unfit
 fit_at l zero i u h = absurd (omega arith)
 fit_at l (suc n) i u h = by_rest (any_unfit l n) refl (λ v m. fit_at l n i v m)
   where
-    by_last : any_unfit l n ≡ false → (t : Bool) → eqb i n ≡ t → (i < n → unfit (get_or l i nobody) ≡ false) → unfit (get_or l i nobody) ≡ false
+    by_last : any_unfit l n ≡ false → (t : Bool) → eqb i n ≡ t → (i < n → unfit (get_or l i nobody) ≡ false)
+        → unfit (get_or l i nobody) ≡ false
     by_last e true t f = let z : i ≡ n = eqb-true _ _ t in rw z (simp e at u)
     by_last e false t f = let z : i ≡ n → ⊥ = eqb-false _ _ t in f (omega arith)
 
@@ -315,7 +320,8 @@ module _ (collector : ℕ) (view : List ℕ) (l : List Peer) (count : ℕ) (r : 
   end_back zero h = omega arith
   end_back (suc n) h =
       let e : end_at S (8 + length view) n ≡ 8 + length view + sizes l n = end_back n (omega arith) in
-      let k : peer_size (get_or S (end_at S (8 + length view) n) 0) ≡ peer_size (get_or l n nobody).kind = ap (λ (m : ℕ). peer_size (get_or S m 0)) e
+      let k : peer_size (get_or S (end_at S (8 + length view) n) 0) ≡ peer_size (get_or l n nobody).kind =
+      ap (λ (m : ℕ). peer_size (get_or S m 0)) e
       ∙ ap peer_size (kind_back n (omega arith)) in
       omega arith
 
@@ -326,7 +332,8 @@ module _ (collector : ℕ) (view : List ℕ) (l : List Peer) (count : ℕ) (r : 
 
   last_back : last_end S ≡ length (table_octets collector view l count)
   unfolding last_end
-  last_back = ap (λ (n : ℕ). end_at S n (peer_count S)) first_back ∙ ap (end_at S (8 + length view)) count_back ∙ end_back count (omega arith)
+  last_back = ap (λ (n : ℕ). end_at S n (peer_count S)) first_back ∙ ap (end_at S (8 + length view)) count_back
+      ∙ end_back count (omega arith)
       ∙ sym length_table
 
   abbrev Back : Heading

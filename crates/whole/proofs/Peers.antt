@@ -23,9 +23,11 @@ unfolding peer_at address_at
 peer-drop s at =
     let k : get_or (drop at s) 0 0 ≡ get_or s at 0 = get_or-drop at s 0 0 ∙ ap (λ (n : ℕ). get_or s n 0) (add-zero at) in
     let i : be_at (drop at s) 1 4 ≡ be_at s (at + 1) 4 = be_drop s at 1 4 in
-    let a : octets_at (drop at s) 5 (address_size (get_or s at 0)) ≡ octets_at s (at + 5) (address_size (get_or s at 0)) = octets-drop s at 5
+    let a : octets_at (drop at s) 5 (address_size (get_or s at 0)) ≡ octets_at s (at + 5) (address_size (get_or s at 0)) =
+    octets-drop s at 5
     (address_size (get_or s at 0)) in
-    let n : be_at (drop at s) (5 + address_size (get_or s at 0)) (as_size (get_or s at 0)) ≡ be_at s (at + 5 + address_size (get_or s at 0)) (as_size
+    let n : be_at (drop at s) (5 + address_size (get_or s at 0)) (as_size (get_or s at 0))
+    ≡ be_at s (at + 5 + address_size (get_or s at 0)) (as_size
     (get_or s at 0)) =
     be_drop s at (5 + address_size (get_or s at 0)) (as_size (get_or s at 0))
     ∙ ap (λ (m : ℕ). be_at s m (as_size (get_or s at 0))) (sym (add_assoc at 5 (address_size (get_or s at 0)))) in
@@ -97,7 +99,8 @@ module _ (s : List ℕ) (at : ℕ) (o : Octets s) (fits : at + peer_size (get_or
       let d : octets_at (x ++ replicate (16 - a) 0) 0 a ≡ x = octets_between [] x (replicate (16 - a) 0) 0 a refl (length-octets s
       (at + 5) a) in
       let e : x ≡ part s (at + 5) a = octets-part s (at + 5) a (omega arith) in
-      let n : bytes_of (as_size kind) (be_at s (at + 5 + a) (as_size kind)) ≡ part s (at + 5 + a) (as_size kind) = bytes_of_be s (at + 5 + a)
+      let n : bytes_of (as_size kind) (be_at s (at + 5 + a) (as_size kind)) ≡ part s (at + 5 + a) (as_size kind) =
+      bytes_of_be s (at + 5 + a)
       (as_size kind) o (omega arith) in
       let five : part s at 1 ++ part s (at + 1) 4 ≡ part s at 5 = part_join s at 1 4 in
       let more : part s at 5 ++ part s (at + 5) a ≡ part s at (5 + a) = part_join s at 5 a in

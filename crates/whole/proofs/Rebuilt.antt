@@ -157,7 +157,8 @@ module _ (s : List ℕ) (t : ℕ) (o : Octets s) (w : Whole s t) where
       (append_assoc x (part s (5 + n) 2) (part s (7 + n) (length s - (7 + n))) ∙ ap (λ (l : List ℕ). x ++ l) d)
 
   -- the prefix, cleared once and again
-  prefix_again : cleared (bits_of s) (prefix_at (bits_of s) s) (prefix_size (bits_of s)) ≡ cleared (bits_of s) (drop 5 s) (prefix_size (bits_of s))
+  prefix_again : cleared (bits_of s) (prefix_at (bits_of s) s) (prefix_size (bits_of s))
+      ≡ cleared (bits_of s) (drop 5 s) (prefix_size (bits_of s))
   unfolding prefix_at prefix_size
   prefix_again =
       let b : ℕ = bits_of s in

@@ -257,7 +257,8 @@ module _ (s : List ℕ) (len t : ℕ) (b : len ≤ length s) (o : Octets (take l
       let m = within r t o w in
       let e : body t h (gs r t o w) ≡ take len s = body_own r t o w in
       let l : length (take len s) ≡ len = length-take-le len s b in
-      let f : length (part r 5 (prefix_size (bits_of r))) ≡ prefix_size (bits_of r) = length_part r 5 (prefix_size (bits_of r)) (omega arith) in
+      let f : length (part r 5 (prefix_size (bits_of r))) ≡ prefix_size (bits_of r) =
+      length_part r 5 (prefix_size (bits_of r)) (omega arith) in
       let sound : Sound t h = record { carries = met-carried r t w.check; few = met_most r t w.check; full = f } in
       let n : length (gs r t o w) ≡ declared r = length_givens (path_size t) r o (declared r) (entries_at r) in
       let x = (run t h sound xs (gs r t o w) (drop len s) (fitting_all r t o w) y).same in

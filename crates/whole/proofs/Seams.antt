@@ -99,7 +99,8 @@ unfoldable pub givens_at : ℕ → List ℕ → ℕ → ℕ → List Given
 givens_at p s at zero = []
 givens_at p s at (suc n) = given_at p s at ∷ givens_at p s (entry_end p s at) n
 
-pub given_at_lem : (p : ℕ) (h r : List ℕ) (g : Given) → Kept p g → (s : List ℕ) → s ≡ h ++ given_octets p g ++ r → given_at p s (length h) ≡ g
+pub given_at_lem : (p : ℕ) (h r : List ℕ) (g : Given) → Kept p g → (s : List ℕ) → s ≡ h ++ given_octets p g ++ r
+    → given_at p s (length h) ≡ g
 unfolding given_at
 given_at_lem p h r g k s e =
     rw (peer-at p h r g k s e, originated-at p h r g k s e, path-at p h r g k s e, length_at p h r g k s e, attributes-at p h r g k s e)

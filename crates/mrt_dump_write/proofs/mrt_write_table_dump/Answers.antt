@@ -2,21 +2,25 @@ use Rattle.answer.specs.declared.Refusal.TheVariants.{Beyond}
 use Rattle.answer.specs.declared.Written.TheVariants.{Refused}
 use Rattle.mrt_lent.proofs.Writing.{returns_written}
 use Rattle.mrt_dump_write.proofs.Writes.{write_short, write_narrow, write_whole}
-use borrow.Author.Rules.{rules}
 use Rattle.mrt_dump_write.proofs.mrt_write_table_dump.Goals as goal
 
 pub returns-then-prefix-lt16 : goal.returns-then-prefix-lt16
-returns-then-prefix-lt16 c = record { answer = returns_written (Refused Beyond) c.wrote_of.ensures (write_short _ _ _ _ _ _ _ _ _ _ _ c.if-prefix-lt16.true) }
+returns-then-prefix-lt16 c = record {
+  answer =
+      returns_written (Refused Beyond) c.wrote_of.ensures (write_short _ _ _ _ _ _ _ _ _ _ _ c.if-prefix-lt16.true);
+}
 
 pub returns-then-peer-lt16 : goal.returns-then-peer-lt16
 returns-then-peer-lt16 c = record {
   answer =
-    returns_written (Refused Beyond) c.wrote_of-then-peer-lt16.ensures
-    (write_narrow _ _ _ _ _ _ _ _ _ _ _ c.if-prefix-lt16.false c.if-peer-lt16.true) }
+      returns_written (Refused Beyond) c.wrote_of-then-peer-lt16.ensures
+      (write_narrow _ _ _ _ _ _ _ _ _ _ _ c.if-prefix-lt16.false c.if-peer-lt16.true);
+}
 
 pub returns : goal.returns
 returns c = record {
   answer =
-    returns_written c.write_dump.result c.wrote_of-2.ensures
-    (write_whole _ _ _ _ _ _ _ _ _ _ _ c.if-prefix-lt16.false c.if-peer-lt16.false
-    c.sixteen.ensures c.sixteen-2.ensures c.write_dump.ensures.answer) }
+      returns_written c.write_dump.result c.wrote_of-2.ensures
+      (write_whole _ _ _ _ _ _ _ _ _ _ _ c.if-prefix-lt16.false c.if-peer-lt16.false
+      c.sixteen.ensures c.sixteen-2.ensures c.write_dump.ensures.answer);
+}

@@ -1,5 +1,4 @@
 use Rattle.mrt_lent.proofs.Writing.{returns_written}
-use borrow.Author.Rules.{rules}
 use Rattle.mrt_header.proofs.mrt_write_header.Goals as goal
 
 pub returns : goal.returns

@@ -1,6 +1,5 @@
 use mathlib.Core.Path.{sym, ◌∙◌, ap}
 use Rattle.answer.specs.Refusal.{outcome_number}
-use borrow.Author.Rules.{rules}
 use Rattle.mrt_judge.proofs.mrt_check_body.Goals as goal
 
 pub returns-in-Accepted : goal.returns-in-Accepted

@@ -1,5 +1,4 @@
 use Rattle.mrt_missing.proofs.Counts.{counters-stored}
-use borrow.Author.Rules.{rules}
 use Rattle.mrt_missing.proofs.put_counters.Goals as goal
 
 pub returns : goal.returns

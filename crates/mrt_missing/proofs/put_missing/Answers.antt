@@ -1,5 +1,4 @@
 use Rattle.mrt_missing.proofs.Counts.{told-seen}
-use borrow.Author.Rules.{rules}
 use Rattle.mrt_missing.proofs.put_missing.Goals as goal
 
 pub returns-in-Nothing : goal.returns-in-Nothing

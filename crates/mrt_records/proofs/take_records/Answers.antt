@@ -1,13 +1,11 @@
-use Prim.Native.Nat.{◌+◌, ◌≤◌, ◌-◌, ◌/◌}
-use mathlib.Core.Path.{◌≡◌, refl, sym, ◌∙◌, ap}
+use Prim.Native.Nat.{◌+◌, ◌≤◌, ◌-◌}
+use mathlib.Core.Path.{refl, sym, ◌∙◌, ap}
 use lib.ListN.{length}
 use native.Mathlib.Omega.{arith}
-use borrow.Author.Rules.{rules}
 use Rattle.octets.specs.Octets.{patch}
 use Rattle.octets.proofs.Stores.{length-patch}
 use Rattle.octets.proofs.Parts.{patch_lent}
-use Rattle.mrt_lent.specs.Rows.{rows_from, rows_out}
-use Rattle.mrt_lent.proofs.Rows.{comes_to, rows_start, rows_turn, rows_full, rows_none}
+use Rattle.mrt_lent.proofs.Rows.{rows_start, rows_turn, rows_full, rows_none}
 use Rattle.mrt_records.specs.Records.{record_at}
 use Rattle.mrt_records.proofs.Cases.{record_found}
 use Rattle.mrt_records.proofs.take_records.Goals as goal

@@ -1,14 +1,9 @@
-use Prim.Native.Nat.{◌+◌, ◌≤◌, ◌-◌, ◌/◌}
-use mathlib.Core.Path.{◌≡◌, refl, sym, ◌∙◌, ap}
+use Prim.Native.Nat.{◌≤◌, ◌-◌, ◌/◌}
+use mathlib.Core.Path.{◌≡◌}
 use lib.ListN.{length}
-use native.Mathlib.Omega.{arith}
-use borrow.Author.Rules.{rules}
-use Rattle.octets.proofs.Stores.{length-patch}
-use Rattle.octets.proofs.Parts.{patch_lent}
 use Rattle.mrt_lent.specs.Rows.{rows_from, rows_out}
-use Rattle.mrt_lent.proofs.Rows.{comes_to, rows_start, rows_turn, rows_full, rows_none}
+use Rattle.mrt_lent.proofs.Rows.{comes_to}
 use Rattle.mrt_rib_entries.specs.Entries.{entry_at}
-use Rattle.mrt_rib_entries.proofs.Cases.{entry_found}
 use Rattle.mrt_rib_entries.proofs.take_entries.Given as goal
 
 abbrev pub invariant-loop-place : goal.invariant-loop-place

@@ -1,6 +1,5 @@
 use mathlib.Core.Path.{refl, ◌∙◌}
 use Rattle.mrt_walk.proofs.Answered.{answered, said_so, window_number, refusal_number}
-use borrow.Author.Rules.{rules}
 use Rattle.mrt_walk.proofs.put_answer.Goals as goal
 
 pub returns-in-Record : goal.returns-in-Record

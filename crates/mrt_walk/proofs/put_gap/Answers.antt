@@ -1,5 +1,4 @@
 use Rattle.mrt_walk.proofs.Answered.{gap-stored}
-use borrow.Author.Rules.{rules}
 use Rattle.mrt_walk.proofs.put_gap.Goals as goal
 
 pub returns : goal.returns

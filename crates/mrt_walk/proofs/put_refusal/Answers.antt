@@ -1,5 +1,4 @@
 use Rattle.mrt_walk.proofs.Answered.{refusal_stored}
-use borrow.Author.Rules.{rules}
 use Rattle.mrt_walk.proofs.put_refusal.Goals as goal
 
 pub returns : goal.returns

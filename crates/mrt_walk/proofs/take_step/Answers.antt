@@ -1,6 +1,5 @@
 use Rattle.walk_step.specs.Answers.{said}
 use Rattle.mrt_walk.proofs.Walks.{moved-stored}
-use borrow.Author.Rules.{rules}
 use Rattle.mrt_walk.proofs.take_step.Goals as goal
 
 pub returns : goal.returns

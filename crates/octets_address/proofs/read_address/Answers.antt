@@ -6,7 +6,10 @@ pub returns-then-n-size : goal.returns-then-n-size
 returns-then-n-size c = record { answer = address_none _ _ _ (omega (arith, c.size_of-size.ensures.answer, c.if-n-size.true)) }
 
 pub returns-then-n-size-2 : goal.returns-then-n-size-2
-returns-then-n-size-2 c = record { answer = address_none _ _ _ (omega (arith, c.size_of-size.ensures.answer, c.if-n-size.false, c.if-n-size-2.true)) }
+returns-then-n-size-2 c = record {
+  answer =
+      address_none _ _ _ (omega (arith, c.size_of-size.ensures.answer, c.if-n-size.false, c.if-n-size-2.true));
+}
 
 pub put_fours-requires : goal.put_fours-requires
 put_fours-requires c =

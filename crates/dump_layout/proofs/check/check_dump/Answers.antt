@@ -11,7 +11,13 @@ pub is_filled-requires : goal.is_filled-requires
 is_filled-requires c = rw c.address_size-x.ensures.answer (address_le _)
 
 pub returns-then-not-is_filled : goal.returns-then-not-is_filled
-returns-then-not-is_filled c = record { answer = check_unmet _ _ c.address_size-x.ensures.answer c.if-x-eq0.false c.is_filled.ensures (ap not c.if-not-is_filled.true) }
+returns-then-not-is_filled c = record {
+  answer =
+      check_unmet _ _ c.address_size-x.ensures.answer c.if-x-eq0.false c.is_filled.ensures (ap not c.if-not-is_filled.true);
+}
 
 pub returns : goal.returns
-returns c = record { answer = check-met _ _ c.address_size-x.ensures.answer c.if-x-eq0.false c.is_filled.ensures (ap not c.if-not-is_filled.false) }
+returns c = record {
+  answer =
+      check-met _ _ c.address_size-x.ensures.answer c.if-x-eq0.false c.is_filled.ensures (ap not c.if-not-is_filled.false);
+}

@@ -17,7 +17,10 @@ pub is_fit-requires : goal.is_fit-requires
 is_fit-requires c = rw c.address_size-x.ensures.answer (address_le _)
 
 pub returns-then-not-is_fit : goal.returns-then-not-is_fit
-returns-then-not-is_fit c = record { answer = write_large _ _ _ _ c.address_size-x.ensures.answer c.if-x-eq0.false c.is_fit.ensures (ap not c.if-not-is_fit.true) }
+returns-then-not-is_fit c = record {
+  answer =
+      write_large _ _ _ _ c.address_size-x.ensures.answer c.if-x-eq0.false c.is_fit.ensures (ap not c.if-not-is_fit.true);
+}
 
 pub overflow_mul-start : goal.overflow_mul-start
 overflow_mul-start c =
@@ -56,7 +59,8 @@ put_fields-requires c =
     let fit : Fit c.address_size-x.result c.args.d (length c.args.attributes.now) =
     write_fit c.args.out.now _ _ c.args.attributes.now c.address_size-x.ensures.answer
     c.if-x-eq0.false c.is_fit.ensures (ap not c.if-not-is_fit.false) in
-    let long-is : size_of (eqb c.address_size-x.result 16) ≡ c.address_size-x.result = family_size _ c.address_size-x.ensures.answer c.if-x-eq0.false in
+    let long-is : size_of (eqb c.address_size-x.result 16) ≡ c.address_size-x.result =
+    family_size _ c.address_size-x.ensures.answer c.if-x-eq0.false in
     (long-is, omega (arith, c.if-out-start.false), fit.asn)
 
 pub returns : goal.returns

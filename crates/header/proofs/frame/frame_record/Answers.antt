@@ -12,4 +12,7 @@ returns-in-Refused c = record {
 }
 
 pub returns-in-Read : goal.returns-in-Read
-returns-in-Read c = record { answer = c.frame_of.ensures.answer ∙ frame_read _ _ (sym (ap values c.in-Read.is) ∙ c.read_header.ensures.answer) }
+returns-in-Read c = record {
+  answer =
+      c.frame_of.ensures.answer ∙ frame_read _ _ (sym (ap values c.in-Read.is) ∙ c.read_header.ensures.answer);
+}

@@ -1,4 +1,3 @@
-use borrow.Author.Rules.{rules}
 use Rattle.listing_lines.proofs.Texts.{field-done}
 use Rattle.listing_lines.proofs.digits.put_field.Goals as goal
 

@@ -1,9 +1,6 @@
-use Prim.Native.Nat.{◌+◌, ◌-◌, ◌*◌, ◌≤◌}
-use mathlib.Core.Path.{◌≡◌, refl, ◌∙◌}
+use Prim.Native.Nat.{◌-◌}
+use mathlib.Core.Path.{refl, ◌∙◌}
 use native.Mathlib.Omega.{arith}
-use lib.ListN.{length, drop}
-use borrow.Author.Rules.{rules}
-use Rattle.listing_lines.specs.Listing.{wrote, rest}
 use Rattle.listing_lines.proofs.Texts.{wrote-le, length-field-le, rest-next, rest-done, fields-done}
 use Rattle.listing_lines.proofs.digits.put_fields.Goals as goal
 
@@ -29,13 +26,12 @@ pub loop-i-smaller : goal.loop-i-smaller
 loop-i-smaller c = omega arith
 
 pub loop-i-preserved : goal.loop-i-preserved
-loop-i-preserved c =
-    (
-      omega arith,
-      omega (arith, wrote-le _ _ _ 21 (length-field-le _) c.put_field-p.ensures),
-      c.put_field-p.auto.out ∙ c.loop-i.invariant.2,
-      rest-next _ _ _ _ c.loop-i-test.true c.put_field-p.ensures ∙ c.loop-i.invariant.3,
-    )
+loop-i-preserved c = (
+  omega arith,
+  omega (arith, wrote-le _ _ _ 21 (length-field-le _) c.put_field-p.ensures),
+  c.put_field-p.auto.out ∙ c.loop-i.invariant.2,
+  rest-next _ _ _ _ c.loop-i-test.true c.put_field-p.ensures ∙ c.loop-i.invariant.3,
+)
 
 pub overflow_add-result : goal.overflow_add-result
 overflow_add-result c = omega arith

@@ -1,10 +1,7 @@
 use Prim.Native.Nat.{◌+◌, ◌-◌, ◌*◌, ◌≤◌}
-use mathlib.Core.Path.{◌≡◌, refl, ◌∙◌}
-use native.Mathlib.Omega.{arith}
+use mathlib.Core.Path.{◌≡◌}
 use lib.ListN.{length, drop}
-use borrow.Author.Rules.{rules}
 use Rattle.listing_lines.specs.Listing.{wrote, rest}
-use Rattle.listing_lines.proofs.Texts.{wrote-le, length-field-le, rest-next, rest-done, fields-done}
 use Rattle.listing_lines.proofs.digits.put_fields.Given as goal
 
 abbrev pub invariant-loop-i : goal.invariant-loop-i

@@ -2,7 +2,6 @@ use Prim.Native.Nat.{◌≤◌}
 use native.Mathlib.Omega.{arith}
 use lib.ListN.{length}
 use Rattle.listing_lines.proofs.Bodies.{seen_lies, seen-counted}
-use borrow.Author.Rules.{rules}
 use Rattle.listing_lines.proofs.text.count_answer.Goals as goal
 
 pub slice_bounds-count-count : goal.slice_bounds-count-count

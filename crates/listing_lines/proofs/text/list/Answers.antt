@@ -1,12 +1,8 @@
-use Prim.Native.Nat.{◌+◌, ◌*◌, ◌≤◌}
-use mathlib.Core.Path.{◌≡◌, refl, sym, ◌∙◌, ap}
+use mathlib.Core.Path.{refl, sym, ◌∙◌, ap}
 use native.Mathlib.Omega.{arith}
-use lib.ListN.{length}
-use borrow.Author.Rules.{rules}
 use Rattle.walk.specs.declared.Walk.{Walk}
-use Rattle.listing_lines.specs.Listing.{wrote, room}
 use Rattle.listing_lines.proofs.Texts.{wrote-le, length-fields-le}
-use Rattle.listing_lines.proofs.Lines.{text, text_le, text_over, text_next, text_last, list_long, list_short}
+use Rattle.listing_lines.proofs.Lines.{text_le, text_over, text_next, text_last, list_long, list_short}
 use Rattle.listing_lines.proofs.Bodies.{answer_lies, walk_lies}
 use Rattle.listing_lines.proofs.text.list.Goals as goal
 
@@ -55,11 +51,12 @@ shape_of-out-then-is_last c =
 pub returns-then-is_last : goal.returns-then-is_last
 returns-then-is_last c = record {
   answer =
-    list_short _ _ _ _ c.if-n-gt65536.false c.fresh-w.ensures.answer c.fresh-counters.ensures.answer
-    c.put_fields-at.ensures
-    (text_last _ _ _ _ _ _ _ _ c.step-turn.ensures.answer _ _ c.count_answer-row.ensures c.loop-calls-test.true
-    c.put_lines-at.ensures (sym c.is_last.ensures ∙ c.if-is_last.true)
-    ∙ c.loop-calls.invariant.3) }
+      list_short _ _ _ _ c.if-n-gt65536.false c.fresh-w.ensures.answer c.fresh-counters.ensures.answer
+      c.put_fields-at.ensures
+      (text_last _ _ _ _ _ _ _ _ c.step-turn.ensures.answer _ _ c.count_answer-row.ensures c.loop-calls-test.true
+      c.put_lines-at.ensures (sym c.is_last.ensures ∙ c.if-is_last.true)
+      ∙ c.loop-calls.invariant.3);
+}
 
 pub overflow_sub-calls : goal.overflow_sub-calls
 overflow_sub-calls c = omega arith
@@ -68,19 +65,18 @@ pub loop-calls-smaller : goal.loop-calls-smaller
 loop-calls-smaller c = omega arith
 
 pub loop-calls-preserved : goal.loop-calls-preserved
-loop-calls-preserved c =
-    (
-      omega (
-        arith,
-        text_le _ _ _ _ _ _ _ _ c.step-turn.ensures.answer _ _ c.count_answer-row.ensures c.loop-calls-test.true
-            c.put_lines-at.ensures,
-      ),
-      c.put_lines-at.auto.out ∙ c.loop-calls.invariant.1,
-      walk_lies _ _ c.loop-calls.invariant.2 _ _ c.step-turn.ensures.answer,
-      text_next _ _ _ _ _ _ _ _ c.step-turn.ensures.answer _ _ c.count_answer-row.ensures c.loop-calls-test.true
-          c.put_lines-at.ensures (sym c.is_last.ensures ∙ c.if-is_last.false)
-          ∙ c.loop-calls.invariant.3,
-    )
+loop-calls-preserved c = (
+  omega (
+    arith,
+    text_le _ _ _ _ _ _ _ _ c.step-turn.ensures.answer _ _ c.count_answer-row.ensures c.loop-calls-test.true
+        c.put_lines-at.ensures,
+  ),
+  c.put_lines-at.auto.out ∙ c.loop-calls.invariant.1,
+  walk_lies _ _ c.loop-calls.invariant.2 _ _ c.step-turn.ensures.answer,
+  text_next _ _ _ _ _ _ _ _ c.step-turn.ensures.answer _ _ c.count_answer-row.ensures c.loop-calls-test.true
+      c.put_lines-at.ensures (sym c.is_last.ensures ∙ c.if-is_last.false)
+      ∙ c.loop-calls.invariant.3,
+)
 
 pub shape_of-out : goal.shape_of-out
 shape_of-out c = c.loop-calls.invariant.1 ∙ c.put_fields-at.auto.out
@@ -88,6 +84,7 @@ shape_of-out c = c.loop-calls.invariant.1 ∙ c.put_fields-at.auto.out
 pub returns : goal.returns
 returns c = record {
   answer =
-    list_short _ _ _ _ c.if-n-gt65536.false c.fresh-w.ensures.answer c.fresh-counters.ensures.answer
-    c.put_fields-at.ensures
-    (text_over _ _ _ _ _ _ c.loop-calls-test.false ∙ c.loop-calls.invariant.3) }
+      list_short _ _ _ _ c.if-n-gt65536.false c.fresh-w.ensures.answer c.fresh-counters.ensures.answer
+      c.put_fields-at.ensures
+      (text_over _ _ _ _ _ _ c.loop-calls-test.false ∙ c.loop-calls.invariant.3);
+}

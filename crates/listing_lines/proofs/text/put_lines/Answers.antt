@@ -2,7 +2,6 @@ use mathlib.Core.Path.{sym}
 use Rattle.listing_lines.specs.Listing.{lines}
 use Rattle.listing_lines.proofs.Texts.{wrote_none}
 use Rattle.listing_lines.proofs.Lines.{lines-seen, gap-seen}
-use borrow.Author.Rules.{rules}
 use Rattle.listing_lines.proofs.text.put_lines.Goals as goal
 
 pub returns-in-Record : goal.returns-in-Record

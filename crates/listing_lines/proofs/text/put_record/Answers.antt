@@ -1,7 +1,6 @@
 use mathlib.Core.Path.{refl}
 use Rattle.listing_lines.specs.Listing.{missing_line}
 use Rattle.listing_lines.proofs.Lines.{record_seen, record_plain}
-use borrow.Author.Rules.{rules}
 use Rattle.listing_lines.proofs.text.put_record.Goals as goal
 
 pub returns-in-Nothing : goal.returns-in-Nothing

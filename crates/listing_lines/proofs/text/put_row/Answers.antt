@@ -1,7 +1,6 @@
 use mathlib.Core.Path.{◌∙◌}
 use native.Mathlib.Omega.{arith}
 use Rattle.listing_lines.proofs.Texts.{wrote_run, wrote-le, length-fields-le}
-use borrow.Author.Rules.{rules}
 use Rattle.listing_lines.proofs.text.put_row.Goals as goal
 
 pub put_fields-requires : goal.put_fields-requires

@@ -1,5 +1,4 @@
 use Rattle.mrt_lent.proofs.Handing.{export_full, export_stored}
-use borrow.Author.Rules.{rules}
 use Rattle.mrt_lent.proofs.hand.hand_out.Goals as goal
 
 pub returns-then-out-values : goal.returns-then-out-values

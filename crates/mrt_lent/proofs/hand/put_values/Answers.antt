@@ -1,6 +1,6 @@
-use Prim.Native.Nat.{◌≤◌, ◌-◌, min}
-use mathlib.Core.Path.{◌≡◌, ◌∙◌, refl, ap}
-use lib.ListN.{length, take}
+use Prim.Native.Nat.{◌-◌}
+use mathlib.Core.Path.{◌∙◌, refl, ap}
+use lib.ListN.{length}
 use native.Mathlib.Omega.{arith}
 use Rattle.octets.specs.Octets.{patch}
 use Rattle.octets.proofs.Stores.{copy_done, length-patch}
@@ -12,8 +12,8 @@ pub loop-i-init : goal.loop-i-init
 unfolding patch
 loop-i-init c =
     elim c.if-out-m.branch [
-      then-out-m w ↦ (omega arith, omega arith, refl)
-    | else-out-m w ↦ (omega arith, omega arith, refl)
+      | then-out-m w ↦ (omega arith, omega arith, refl)
+      | else-out-m w ↦ (omega arith, omega arith, refl)
     ]
 
 pub offset_bounds-values-i : goal.offset_bounds-values-i

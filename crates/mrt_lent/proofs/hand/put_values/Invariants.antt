@@ -1,11 +1,7 @@
 use Prim.Native.Nat.{◌≤◌, ◌-◌, min}
-use mathlib.Core.Path.{◌≡◌, ◌∙◌, refl, ap}
-use mathlib.Core.Logic.{⊎_elim}
+use mathlib.Core.Path.{◌≡◌}
 use lib.ListN.{length, take}
-use native.Mathlib.Omega.{arith}
 use Rattle.octets.specs.Octets.{patch}
-use Rattle.octets.proofs.Stores.{copy_done, length-patch}
-use Rattle.mrt_lent.proofs.Handing.{front_turn}
 use Rattle.mrt_lent.proofs.hand.put_values.Given as goal
 
 abbrev pub invariant-loop-i : goal.invariant-loop-i

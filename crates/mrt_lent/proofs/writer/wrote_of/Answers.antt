@@ -1,7 +1,6 @@
 use mathlib.Core.Path.{sym, ◌∙◌, ap}
 use Prim.Native.Nat.{ℕ}
 use Rattle.mrt_lent.specs.Writer.{wrote_of}
-use borrow.Author.Rules.{rules}
 use Rattle.mrt_lent.proofs.writer.wrote_of.Goals as goal
 
 pub returns-in-Octets : goal.returns-in-Octets

@@ -1,4 +1,4 @@
-use Rattle.std.proofs.Common.{ℕ, ◌-◌, ◌<◌, ◌≤◌, length, refl, ◌∙◌, ap, arith}
+use Rattle.std.proofs.Common.{◌-◌, ◌<◌, length, refl, ◌∙◌, ap, arith}
 use Rattle.std.proofs.lemmas.List.{get_or_default}
 use Rattle.peers_entry.specs.Peer.{nobody}
 use Rattle.peers_entry.specs.declared.Peer.{Peer}
@@ -34,5 +34,5 @@ loop-search-preserved c =
 
 pub returns : goal.returns
 returns c = record {
-  answer = pending_done _ _ _ c.begin_search-search.ensures.1 (omega arith) c.loop-search.invariant.1
+  answer = pending_done _ _ _ c.begin_search-search.ensures.1 (omega arith) c.loop-search.invariant.1;
 }

@@ -1,5 +1,4 @@
 use Rattle.peers_find.proofs.Steps.{judge_late, judge_hit, judge_miss}
-use borrow.Author.Rules.{rules}
 use mathlib.Core.Bool.{not}
 use mathlib.Core.Path.{ap}
 use Rattle.peers_find.proofs.step.judge.Goals as goal

@@ -1,6 +1,5 @@
 use mathlib.Core.Path.{sym, ◌∙◌}
 use Rattle.peers_slots.proofs.Counts.{unused, all_used}
-use borrow.Author.Rules.{rules}
 use Rattle.peers_slots.proofs.used.in_use.Goals as goal
 
 pub returns-then-wrong_count : goal.returns-then-wrong_count

@@ -19,9 +19,10 @@ overflow_sub-n-in-loop-i c = omega arith
 pub returns-then-n-at : goal.returns-then-n-at
 returns-then-n-at c = record {
   answer =
-    short_peer _ (count_at_lem _ c.be16-length.ensures c.be16-count.ensures)
-    c.loop-i-test.true c.loop-i.invariant.1 (c.peer_size-size.ensures.answer
-    ∙ ap peer_size c.octet.ensures) c.loop-i.invariant.2 c.if-n-at.true }
+      short_peer _ (count_at_lem _ c.be16-length.ensures c.be16-count.ensures)
+      c.loop-i-test.true c.loop-i.invariant.1 (c.peer_size-size.ensures.answer
+      ∙ ap peer_size c.octet.ensures) c.loop-i.invariant.2 c.if-n-at.true;
+}
 
 pub overflow_add-at-in-loop-i : goal.overflow_add-at-in-loop-i
 overflow_add-at-in-loop-i c = omega arith
@@ -43,7 +44,8 @@ loop-i-preserved c = (
 pub returns : goal.returns
 returns c = record {
   answer =
-    held _ c.be32.ensures c.be16-length.ensures (count_at_lem _
-    c.be16-length.ensures c.be16-count.ensures) (first-at _
-    c.be16-length.ensures) c.loop-i.invariant.1 c.loop-i.invariant.0
-    c.loop-i-test.false c.loop-i.invariant.2 }
+      held _ c.be32.ensures c.be16-length.ensures (count_at_lem _
+      c.be16-length.ensures c.be16-count.ensures) (first-at _
+      c.be16-length.ensures) c.loop-i.invariant.1 c.loop-i.invariant.0
+      c.loop-i-test.false c.loop-i.invariant.2;
+}

@@ -12,7 +12,10 @@ pub returns-then-not-l : goal.returns-then-not-l
 returns-then-not-l c = record { answer = next_other _ _ _ c.if-body-c.false (carried-not _ c.layout_of-l.ensures.answer c.if-not-l.true) }
 
 pub returns-then-left-eq0 : goal.returns-then-left-eq0
-returns-then-left-eq0 c = record { answer = next-none _ _ _ c.if-body-c.false (carried_so _ c.layout_of-l.ensures.answer c.if-not-l.false) c.if-left-eq0.true }
+returns-then-left-eq0 c = record {
+  answer =
+      next-none _ _ _ c.if-body-c.false (carried_so _ c.layout_of-l.ensures.answer c.if-not-l.false) c.if-left-eq0.true;
+}
 
 pub read_entry-requires : goal.read_entry-requires
 read_entry-requires c = path_sized _ (path_of _ c.layout_of-l.ensures.answer)

@@ -11,7 +11,8 @@ unfolding carried most_bits path_size pathed ipv4 ipv6
 returns-in-2 c = record {
   answer =
       of_neighbours
-      (λ (t : ℕ). record { carried = true; most = 32; path = 0 } ≡ layout_of t) 2 {t = c.args.subtype} (omega arith) (omega arith) refl refl;
+      (λ (t : ℕ). record { carried = true; most = 32; path = 0 } ≡ layout_of t) 2 {t =
+      c.args.subtype} (omega arith) (omega arith) refl refl;
 }
 
 pub returns-in-4 : goal.returns-in-4
@@ -19,7 +20,8 @@ unfolding carried most_bits path_size pathed ipv4 ipv6
 returns-in-4 c = record {
   answer =
       of_neighbours
-      (λ (t : ℕ). record { carried = true; most = 128; path = 0 } ≡ layout_of t) 4 {t = c.args.subtype} (omega arith) (omega arith) refl refl;
+      (λ (t : ℕ). record { carried = true; most = 128; path = 0 } ≡ layout_of t) 4 {t =
+      c.args.subtype} (omega arith) (omega arith) refl refl;
 }
 
 pub returns-in-8 : goal.returns-in-8
@@ -27,7 +29,8 @@ unfolding carried most_bits path_size pathed ipv4 ipv6
 returns-in-8 c = record {
   answer =
       of_neighbours
-      (λ (t : ℕ). record { carried = true; most = 32; path = 4 } ≡ layout_of t) 8 {t = c.args.subtype} (omega arith) (omega arith) refl refl;
+      (λ (t : ℕ). record { carried = true; most = 32; path = 4 } ≡ layout_of t) 8 {t =
+      c.args.subtype} (omega arith) (omega arith) refl refl;
 }
 
 pub returns-in-10 : goal.returns-in-10
@@ -35,7 +38,8 @@ unfolding carried most_bits path_size pathed ipv4 ipv6
 returns-in-10 c = record {
   answer =
       of_neighbours
-      (λ (t : ℕ). record { carried = true; most = 128; path = 4 } ≡ layout_of t) 10 {t = c.args.subtype} (omega arith) (omega arith) refl refl;
+      (λ (t : ℕ). record { carried = true; most = 128; path = 4 } ≡ layout_of t) 10 {t =
+      c.args.subtype} (omega arith) (omega arith) refl refl;
 }
 
 pub returns-in_default : goal.returns-in_default
@@ -43,7 +47,8 @@ unfolding carried most_bits path_size pathed ipv4 ipv6
 returns-in_default c = record {
   answer =
       of_neighbours
-      (λ (t : ℕ). record { carried = false; most = 0; path = 0 } ≡ layout_of t) 0 {t = c.args.subtype} (omega arith) (omega arith) refl refl;
+      (λ (t : ℕ). record { carried = false; most = 0; path = 0 } ≡ layout_of t) 0 {t =
+      c.args.subtype} (omega arith) (omega arith) refl refl;
 }
 
 pub returns-in_default-2 : goal.returns-in_default-2
@@ -51,7 +56,8 @@ unfolding carried most_bits path_size pathed ipv4 ipv6
 returns-in_default-2 c = record {
   answer =
       of_neighbours
-      (λ (t : ℕ). record { carried = false; most = 0; path = 0 } ≡ layout_of t) 6 {t = c.args.subtype} (omega arith) (omega arith) refl refl;
+      (λ (t : ℕ). record { carried = false; most = 0; path = 0 } ≡ layout_of t) 6 {t =
+      c.args.subtype} (omega arith) (omega arith) refl refl;
 }
 
 pub returns-in_default-3 : goal.returns-in_default-3

@@ -21,7 +21,10 @@ push_rows-requires c = (
 )
 
 pub returns-in-Refused : goal.returns-in-Refused
-returns-in-Refused c = record { answer = rows_unmet _ _ _ _ _ c.if-rows-ne0.false c.if-out-b.false _ c.check_builder.ensures c.in-Refused.is }
+returns-in-Refused c = record {
+  answer =
+      rows_unmet _ _ _ _ _ c.if-rows-ne0.false c.if-out-b.false _ c.check_builder.ensures c.in-Refused.is;
+}
 
 pub returns-in-Accepted : goal.returns-in-Accepted
 returns-in-Accepted c = record {

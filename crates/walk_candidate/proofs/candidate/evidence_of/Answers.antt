@@ -1,6 +1,5 @@
 use mathlib.Core.Path.{sym, ◌∙◌}
 use Rattle.walk_candidate.proofs.Candidates.{evidence_states, evidence_marker}
-use borrow.Author.Rules.{rules}
 use Rattle.walk_candidate.proofs.candidate.evidence_of.Goals as goal
 
 pub returns-then-is_state_change : goal.returns-then-is_state_change

@@ -1,7 +1,5 @@
 use mathlib.Core.Path.{sym, ◌∙◌}
-use borrow.Author.Tests.{not-true, not-false}
 use Rattle.walk_candidate.proofs.Candidates.{plausible_type, plausible-long, plausible_late, plausible-rest}
-use borrow.Author.Rules.{rules}
 use Rattle.walk_candidate.proofs.candidate.is_plausible.Goals as goal
 
 pub returns-then-not-is_taken_up : goal.returns-then-not-is_taken_up

@@ -1,8 +1,6 @@
-use mathlib.Core.Logic.{⊎_elim}
 use mathlib.Core.Path.{◌∙◌}
 use native.Mathlib.Omega.{arith}
 use Rattle.walk_judge.proofs.Bodies.{check-legacy, check-dump, check-dump_v2, check-message, check-rest}
-use borrow.Author.Rules.{rules}
 use Rattle.walk_judge.proofs.body.check_body.Goals as goal
 
 pub returns-in-5 : goal.returns-in-5
@@ -20,5 +18,6 @@ returns-in-16 c = record { answer = c.check_bgp4mp.ensures.answer ∙ check-mess
 pub returns-in_default : goal.returns-in_default
 returns-in_default c = record {
   answer =
-    c.refuse_type.ensures
-    ∙ check-rest _ _ _ _ (λ e. omega arith) (λ e. omega arith) (λ e. omega arith) (λ e. omega arith) (λ e. omega arith) }
+      c.refuse_type.ensures
+      ∙ check-rest _ _ _ _ (λ e. omega arith) (λ e. omega arith) (λ e. omega arith) (λ e. omega arith) (λ e. omega arith);
+}

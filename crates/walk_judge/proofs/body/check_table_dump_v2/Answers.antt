@@ -1,7 +1,6 @@
 use Rattle.peers_table.specs.Table.{Heading, heading}
 use mathlib.Core.Path.{sym, ◌∙◌, ap}
 use Rattle.walk_judge.proofs.Bodies.{dump-rib, dump-peers}
-use borrow.Author.Rules.{rules}
 use Rattle.walk_judge.proofs.body.check_table_dump_v2.Goals as goal
 
 pub returns-then-subtype-ne1 : goal.returns-then-subtype-ne1

@@ -1,6 +1,5 @@
 use mathlib.Core.Bool.{cond}
 use mathlib.Core.Path.{sym, ◌∙◌, ap}
-use borrow.Author.Rules.{rules}
 use Rattle.walk_judge.proofs.body.refuse_type.Goals as goal
 
 pub returns-then-is_known : goal.returns-then-is_known

@@ -1,7 +1,6 @@
 use mathlib.Core.Path.{sym, ◌∙◌, ap}
 use Rattle.walk_judge.specs.Record.{judged}
 use Rattle.walk_judge.proofs.Judging.{judgement_beyond, judgement-within}
-use borrow.Author.Rules.{rules}
 use Rattle.walk_judge.proofs.record.judge_record.Goals as goal
 
 pub returns-then-s-at : goal.returns-then-s-at

@@ -1,4 +1,4 @@
-use Rattle.std.proofs.Common.{◌∙◌, rules}
+use Rattle.std.proofs.Common.{◌∙◌}
 use Rattle.walk_missing.proofs.Rows.{count-dump, count_table, count-rest}
 use Rattle.walk_missing.proofs.row.count.Goals as goal
 

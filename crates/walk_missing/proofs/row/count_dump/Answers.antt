@@ -1,4 +1,4 @@
-use Rattle.std.proofs.Common.{true, ◌∙◌, rules}
+use Rattle.std.proofs.Common.{true, ◌∙◌}
 use Rattle.walk_missing.proofs.Rows.{row_short, row-counted}
 use Rattle.walk_missing.proofs.row.count_dump.Goals as goal
 

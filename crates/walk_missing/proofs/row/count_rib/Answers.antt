@@ -1,4 +1,4 @@
-use Rattle.std.proofs.Common.{false, ◌∙◌, rules}
+use Rattle.std.proofs.Common.{false, ◌∙◌}
 use Rattle.walk_missing.proofs.Rows.{row_short, row-counted}
 use Rattle.walk_missing.proofs.row.count_rib.Goals as goal
 

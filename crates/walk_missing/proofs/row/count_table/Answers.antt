@@ -1,5 +1,5 @@
 use Rattle.rib_head.proofs.Heads.{carried-not, carried_so}
-use Rattle.std.proofs.Common.{ap, ◌∙◌, rules}
+use Rattle.std.proofs.Common.{ap, ◌∙◌}
 use Rattle.walk_missing.specs.Row.{untold}
 use Rattle.walk_missing.proofs.Rows.{count-peers, count-rib, count_other}
 use Rattle.walk_missing.proofs.row.count_table.Goals as goal

@@ -1,4 +1,4 @@
-use Rattle.std.proofs.Common.{true, false, arith, rules}
+use Rattle.std.proofs.Common.{true, false, arith}
 use Rattle.walk_missing.proofs.Turns.{width_fits, wrapped}
 use Rattle.walk_missing.proofs.turned.apart.Goals as goal
 

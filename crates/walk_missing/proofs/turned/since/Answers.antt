@@ -1,6 +1,4 @@
-use borrow.Author.Tests.{not-true, not-false}
 use Rattle.walk_missing.proofs.Rows.{since_none, since_repeat, since-rows}
-use Rattle.std.proofs.Common.{rules}
 use Rattle.walk_missing.proofs.turned.since.Goals as goal
 
 pub returns-then-not-seen : goal.returns-then-not-seen

@@ -1,5 +1,4 @@
 use native.Mathlib.Omega.{arith}
-use borrow.Author.Rules.{rules}
 use Rattle.walk_candidate.proofs.Candidates.{candidate_unmarked}
 use Rattle.walk_scan.proofs.sight.mark_at.Goals as goal
 

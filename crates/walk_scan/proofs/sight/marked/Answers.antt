@@ -1,7 +1,5 @@
-use Prim.Native.Nat.{◌≤◌, ◌-◌}
-use mathlib.Core.Path.{◌≡◌}
+use Prim.Native.Nat.{◌-◌}
 use native.Mathlib.Omega.{arith}
-use Rattle.walk_scan.specs.Sight.{Clear}
 use Rattle.walk_scan.proofs.Scans.{clear_none, clear_one}
 use Rattle.walk_scan.proofs.sight.marked.Goals as goal
 

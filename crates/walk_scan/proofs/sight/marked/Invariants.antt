@@ -1,8 +1,6 @@
 use Prim.Native.Nat.{◌≤◌, ◌-◌}
 use mathlib.Core.Path.{◌≡◌}
-use native.Mathlib.Omega.{arith}
 use Rattle.walk_scan.specs.Sight.{Clear}
-use Rattle.walk_scan.proofs.Scans.{clear_none, clear_one}
 use Rattle.walk_scan.proofs.sight.marked.Given as goal
 
 abbrev pub invariant-loop-i : goal.invariant-loop-i

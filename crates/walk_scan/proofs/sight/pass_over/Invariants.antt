@@ -1,7 +1,5 @@
 use Prim.Native.Nat.{◌≤◌, ◌-◌}
-use native.Mathlib.Omega.{arith}
 use Rattle.walk_scan.specs.Sight.{Passed}
-use Rattle.walk_scan.proofs.Scans.{passed_none, passed_on}
 use Rattle.walk_scan.proofs.sight.pass_over.Given as goal
 
 abbrev pub invariant-loop-d : goal.invariant-loop-d

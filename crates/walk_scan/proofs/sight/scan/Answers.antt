@@ -1,10 +1,8 @@
-use Prim.Native.Nat.{◌+◌, ◌≤◌, ◌-◌, min}
-use mathlib.Core.Path.{◌≡◌, refl, sym, ◌∙◌, ap}
+use Prim.Native.Nat.{◌+◌, ◌-◌}
+use mathlib.Core.Path.{refl, sym, ◌∙◌, ap}
 use native.Mathlib.Omega.{arith}
-use lib.ListN.{length}
-use borrow.Author.Rules.{rules}
-use Rattle.walk.proofs.Turns.{Left, Looks, scan_starts, scan_looks, scan_turned, scan-left}
-use Rattle.walk.proofs.Turns.{Stood, row_starts, row_ends, row_turned, row-whole}
+use Rattle.walk.proofs.Turns.{Looks, scan_starts, scan_looks, scan_turned, scan-left}
+use Rattle.walk.proofs.Turns.{row_starts, row_ends, row_turned, row-whole}
 use Rattle.walk_candidate.specs.Candidate.{candidate_at, candidacy}
 use Rattle.walk_scan.proofs.Scans.{scan_reached, left_over}
 use Rattle.walk_scan.proofs.sight.scan.Goals as goal

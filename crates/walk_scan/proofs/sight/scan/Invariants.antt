@@ -1,12 +1,9 @@
-use Prim.Native.Nat.{◌+◌, ◌≤◌, ◌-◌, min}
-use mathlib.Core.Path.{◌≡◌, refl, sym, ◌∙◌, ap}
-use native.Mathlib.Omega.{arith}
+use Prim.Native.Nat.{◌≤◌, ◌-◌, min}
+use mathlib.Core.Path.{◌≡◌}
 use lib.ListN.{length}
-use borrow.Author.Rules.{rules}
-use Rattle.walk.proofs.Turns.{Left, Looks, scan_starts, scan_looks, scan_turned, scan-left}
-use Rattle.walk.proofs.Turns.{Stood, row_starts, row_ends, row_turned, row-whole}
-use Rattle.walk_candidate.specs.Candidate.{candidate_at, candidacy}
-use Rattle.walk_scan.proofs.Scans.{scan_reached, left_over}
+use Rattle.walk.proofs.Turns.{Left}
+use Rattle.walk.proofs.Turns.{Stood}
+use Rattle.walk_candidate.specs.Candidate.{candidate_at}
 use Rattle.walk_scan.proofs.sight.scan.Given as goal
 
 abbrev pub invariant-loop-by : goal.invariant-loop-by

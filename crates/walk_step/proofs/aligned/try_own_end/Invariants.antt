@@ -1,9 +1,5 @@
 use Prim.Native.Nat.{◌≤◌, ◌-◌}
-use native.Mathlib.Omega.{arith}
-use borrow.Author.Rules.{rules}
-use Rattle.walk_judge.specs.Record.{judged}
-use mathlib.Core.Path.{sym, ◌∙◌, ap}
-use Rattle.walk_step.proofs.Reading.{Goes, goes_first, goes_enough, goes_end, goes_off, goes_cut, goes_on}
+use Rattle.walk_step.proofs.Reading.{Goes}
 use Rattle.walk_step.proofs.aligned.try_own_end.Given as goal
 
 abbrev pub invariant-loop-passed : goal.invariant-loop-passed

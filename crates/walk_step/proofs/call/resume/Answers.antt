@@ -4,7 +4,6 @@ use mathlib.Core.Path.{sym, ◌∙◌, ap}
 use Rattle.walk_step.specs.Answers.{tried}
 use Rattle.walk_step.proofs.Reading.{asked-own}
 use Rattle.walk.proofs.Calls.{own-passed, own-failed}
-use borrow.Author.Rules.{rules}
 use Rattle.walk_step.proofs.call.resume.Goals as goal
 
 pub returns-in-Failed : goal.returns-in-Failed

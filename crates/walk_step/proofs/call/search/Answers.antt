@@ -4,7 +4,6 @@ use Rattle.walk_candidate.specs.Candidate.{candidate_at}
 use Rattle.walk_judge.specs.Record.{judge_at}
 use mathlib.Core.Path.{sym, ◌∙◌, ap}
 use Rattle.walk_scan.specs.Sight.{sighted}
-use borrow.Author.Rules.{rules}
 use Rattle.walk_step.proofs.call.search.Goals as goal
 
 pub returns-in-Nowhere : goal.returns-in-Nowhere

@@ -1,6 +1,5 @@
 use mathlib.Core.Path.{◌∙◌}
 use Rattle.walk.proofs.Calls.{unfound-none, unfound_near, unfound-within, unfound_full}
-use borrow.Author.Rules.{rules}
 use Rattle.walk_step.proofs.call.unfound.Goals as goal
 
 pub returns-then-window-eq0 : goal.returns-then-window-eq0
