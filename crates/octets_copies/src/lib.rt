@@ -1,4 +1,6 @@
 // Octets and numbers stored whole where there is room for them. Where the output ends, octets are dropped, so that every call answers.
+#![tactic(auto)]
+
 ghost use Rattle.std.specs.Prelude.{◌≡◌, ◌+◌, ◌≤◌, min, leb, length, take};
 ghost use Rattle.octets.specs.Octets.{bytes_of, part, patch};
 
