@@ -32,8 +32,9 @@ fn make(archive: &Path) {
     }
     // of a crate's folder what `rt` reads, and not the `out` that it writes
     for folder in fs::read_dir("../crates").into_iter().flatten().flatten() {
-        for part in ["src", "specs", "proofs"] {
-            println!("cargo:rerun-if-changed={}", folder.path().join(part).display());
+        let parts = ["src", "specs", "proofs"].map(|part| folder.path().join(part));
+        for part in parts.iter().filter(|part| part.is_dir()) {
+            println!("cargo:rerun-if-changed={}", part.display());
         }
     }
     if !Path::new("../tests/archive").is_file() {

@@ -93,7 +93,8 @@ fn library(is_wanted: impl Fn(&str) -> bool) -> String {
     let crates = Path::new(env!("CARGO_MANIFEST_DIR")).join("../crates");
     let folders = fs::read_dir(&crates).unwrap_or_else(|error| panic!("{}: {error}", crates.display()));
     let folders = folders.map(|entry| entry.unwrap()).filter(|entry| is_wanted(&entry.file_name().to_string_lossy()));
-    let sources = folders.flat_map(|entry| files(&entry.path().join("src"), "rt"));
+    let sources = folders.map(|entry| entry.path().join("src")).filter(|source| source.is_dir());
+    let sources = sources.flat_map(|source| files(&source, "rt"));
     sources.map(|path| plain(&text(path))).collect::<Vec<_>>().join(" ")
 }
 
