@@ -88,20 +88,14 @@ fn lent(parameter: &str) -> Vec<(String, String)> {
     }
 }
 
-/// The source of some of the library's crates.
-fn library(is_wanted: impl Fn(&str) -> bool) -> String {
+/// The exported calls of the library's source.
+fn exported() -> Calls {
     let crates = Path::new(env!("CARGO_MANIFEST_DIR")).join("../crates");
     let folders = fs::read_dir(&crates).unwrap_or_else(|error| panic!("{}: {error}", crates.display()));
-    let folders = folders.map(|entry| entry.unwrap()).filter(|entry| is_wanted(&entry.file_name().to_string_lossy()));
-    let sources = folders.map(|entry| entry.path().join("src")).filter(|source| source.is_dir());
-    let sources = sources.flat_map(|source| files(&source, "rt"));
-    sources.map(|path| plain(&text(path))).collect::<Vec<_>>().join(" ")
-}
-
-/// The exported calls of the library's source, which all stand in one crate.
-fn exported() -> Calls {
-    let structs = structs(&library(|_| true));
-    let source = library(|name| name == "mrt_c");
+    let folders = folders.map(|entry| entry.unwrap().path().join("src")).filter(|source| source.is_dir());
+    let sources = folders.flat_map(|source| files(&source, "rt"));
+    let source = sources.map(|path| plain(&text(path))).collect::<Vec<_>>().join(" ");
+    let structs = structs(&source);
     let after = source.split("#[unsafe(no_mangle)]").skip(1);
     after
         .map(|after| {

@@ -1,10 +1,12 @@
-// The common header: read, framed, written.
+// For C and Rust: the functions of `mrt_header` that they call, under their own names. Each promises the same.
+#![tactic(auto)]
+
 ghost use Rattle.std.specs.Prelude.{◌≡◌};
 ghost use Rattle.header.specs.Read.{header_at};
-ghost use Rattle.mrt_header.specs.Records.{read_out, framed_out};
 ghost use Rattle.header.specs.Frame.{frame_at};
 ghost use Rattle.header.specs.Write.{write_header};
 ghost use Rattle.mrt_lent.specs.Writer.{written_out};
+ghost use Rattle.mrt_header.specs.Records.{read_out, framed_out};
 
 use mrt_lent::Wrote;
 

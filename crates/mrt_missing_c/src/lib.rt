@@ -1,4 +1,6 @@
-// Missing rows.
+// For C and Rust: the function of `mrt_missing` that they call, under its own name. It promises the same.
+#![tactic(auto)]
+
 ghost use Rattle.std.specs.Prelude.{◌≡◌};
 ghost use Rattle.mrt_missing.specs.Missing.{missing_out};
 

@@ -1,8 +1,10 @@
-// A record, a body, and a candidate of a scan, judged.
+// For C and Rust: the functions of `mrt_judge` that they call, under their own names. Each promises the same.
+#![tactic(auto)]
+
 ghost use Rattle.std.specs.Prelude.{◌≡◌};
+ghost use Rattle.walk_judge.specs.Body.{check};
 ghost use Rattle.walk_judge.specs.Record.{judgement_at};
 ghost use Rattle.mrt_judge.specs.Judged.{judged_out, candidate_out};
-ghost use Rattle.walk_judge.specs.Body.{check};
 
 // The record at an offset of a stream, judged.
 #[unsafe(no_mangle)]

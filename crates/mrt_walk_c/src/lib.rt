@@ -1,9 +1,8 @@
-// The walk: an answer by each call, and records many by one.
+// For C and Rust: the function of `mrt_walk` that they call, under its own name. It promises the same.
+#![tactic(auto)]
+
 ghost use Rattle.std.specs.Prelude.{◌≡◌};
 ghost use Rattle.mrt_walk.specs.Next.{next_out};
-ghost use Rattle.mrt_records.specs.Records.{records_out};
-
-use mrt_lent::Handed;
 
 // The next answer of a walk that is lent as its position and its finished mark. Room for every answer is asked for before the
 // walk moves, so that no answer is lost.
@@ -19,14 +18,4 @@ pub extern "C" fn mrt_next(
         ≡ next_out s.now walk.old window asked out.old }
 {
     mrt_walk::mrt_next(s, walk, window, asked, out)
-}
-
-// Records from the position of a lent walk on, as long as each passes all checks and has ten places. What stands after the last
-// one, `mrt_next` says.
-#[unsafe(no_mangle)]
-pub extern "C" fn mrt_records(s: &[u8], walk: &mut [u64], out: &mut [u64]) -> Handed
-    ensures answer { (walk.new, (out.new, result))
-        ≡ records_out s.now walk.old out.old }
-{
-    mrt_records::mrt_records(s, walk, out)
 }
