@@ -1,10 +1,9 @@
 // Lists the records and gaps of a dump: standard input in, a line for each to standard output.
 #![tactic(auto)]
 
-ghost use Rattle.std.specs.Prelude.{◌≡◌, ◌≤◌, length, IfOk, vec_len};
+ghost use Rattle.std.specs.Prelude.{◌≡◌, ◌≤◌, length};
 ghost use Rattle.listing_lines.specs.Listing.{room};
 
-use std::alloc::{AllocError, Global};
 use std::io::Read;
 
 // Room for one octet more than can be listed, so that longer input is seen.
@@ -15,20 +14,19 @@ fn input_room() -> [u8; 65537]
 }
 
 // Room for every listing.
-fn text_room(alloc: Global) -> Result<Vec<u8>, AllocError>
-    ensures { IfOk result (λ v. room ≡ vec_len v) }
+fn text_room() -> [u8; 1649589]
+    ensures { room ≡ length result }
 {
-    Vec::from_elem(alloc, 0u8, 1649589)
+    [0; 1649589]
 }
 
 // A read or a write that fails is the end of the input or of the output, and shows nowhere else.
-fn main(rt: HostRuntime) -> Result<(), AllocError> {
+fn main(rt: HostRuntime) {
     let mut input = input_room();
     let n = read_full(&mut rt.stdin(), &mut input);
-    let mut text = text_room(rt.alloc())?;
+    let mut text = text_room();
     let m = listing_lines::list(&input[..n], &mut text);
     let _ = rt.write_all(&text[..m]);
-    Ok(())
 }
 
 // Reads until the room is full, the input ends or a read fails, and answers how many octets stand in the room then.

@@ -14,7 +14,6 @@ mod walks;
 ghost use Rattle.std.specs.Prelude.{◌≤◌, length};
 
 use crate::put::sum;
-use std::alloc::AllocError;
 use std::env::{Env, FillError};
 use std::fs;
 use std::fs::Files;
@@ -27,16 +26,19 @@ const QUESTION: usize = 1179648;
 
 const ANSWER: usize = 589824;
 
-fn main(rt: HostRuntime) -> Result<(), AllocError> {
-    let alloc = rt.alloc();
-    let mut list = Vec::from_elem(alloc, 0u8, LIST)?;
-    let mut rec = Vec::from_elem(alloc, 0u8, QUESTION)?;
-    let mut out = Vec::from_elem(alloc, 0u8, ANSWER)?;
+fn main(rt: HostRuntime) {
+    let mut list = [0u8; LIST];
+    let mut rec = [0u8; QUESTION];
+    let mut out = [0u8; ANSWER];
     replay(&rt, &mut list, &mut rec, &mut out);
-    Ok(())
 }
 
-fn replay<R: Env + Files + Print>(rt: &R, list: &mut [u8], rec: &mut [u8], out: &mut [u8]) {
+fn replay<R: Env + Files + Print>(
+    rt: &R,
+    list: &mut [u8; LIST],
+    rec: &mut [u8; QUESTION],
+    out: &mut [u8; ANSWER],
+) {
     replay_lists(rt, arg_count(rt), list, rec, out);
 }
 

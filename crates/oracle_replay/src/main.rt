@@ -3,7 +3,6 @@
 
 ghost use Rattle.std.specs.Prelude.{◌≤◌, length};
 
-use std::alloc::AllocError;
 use std::env::{Env, FillError};
 use std::fs;
 use std::fs::Files;
@@ -14,21 +13,19 @@ const STREAM: usize = 65537;
 // One octet more than any listing has, so that a longer file is seen.
 const TEXT: usize = 1649590;
 
-fn main(rt: HostRuntime) -> Result<(), AllocError> {
-    let alloc = rt.alloc();
-    let mut stream = Vec::from_elem(alloc, 0u8, STREAM)?;
-    let mut text = Vec::from_elem(alloc, 0u8, TEXT)?;
-    let mut expected = Vec::from_elem(alloc, 0u8, TEXT)?;
+fn main(rt: HostRuntime) {
+    let mut stream = [0u8; STREAM];
+    let mut text = [0u8; TEXT];
+    let mut expected = [0u8; TEXT];
     replay_named(&rt, &mut stream, &mut text, &mut expected);
-    Ok(())
 }
 
 // The first word of a command line is the program's own name. A write that fails shows nowhere.
 fn replay_named<R: Env + Files + Print>(
     rt: &R,
-    stream: &mut [u8],
-    text: &mut [u8],
-    expected: &mut [u8],
+    stream: &mut [u8; STREAM],
+    text: &mut [u8; TEXT],
+    expected: &mut [u8; TEXT],
 ) {
     let words = arg_count(rt);
     if words == 0 {

@@ -5,3 +5,6 @@ use Rattle.listing.proofs.main.Goals as goal
 
 pub slice_bounds-write_all-end : goal.slice_bounds-write_all-end
 slice_bounds-write_all-end c = sym (length-take-le _ _ (omega (arith, list_end-le _ _ c.list-m.ensures.answer)))
+
+pub slice_bounds-text-end : goal.slice_bounds-text-end
+slice_bounds-text-end c = omega (arith, list_end-le _ _ c.list-m.ensures.answer)
