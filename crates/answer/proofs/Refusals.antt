@@ -6,8 +6,7 @@ use lib.Dec.{eqb}
 use borrow.Author.Tests.{ne_eqb}
 use native.Mathlib.Omega.{arith}
 use Rattle.answer.specs.Refusal.{number_of, outcome_number}
-use Rattle.answer.specs.declared.Outcome.{Outcome}
-use Rattle.answer.specs.declared.Outcome.TheVariants.{Accepted, Refused}
+use Rattle.std.specs.Prelude.{Result, Ok, Err}
 use Rattle.answer.specs.declared.Refusal.{Refusal}
 use Rattle.answer.specs.declared.Refusal.TheVariants.{TruncatedHeader, UnknownType, ShortLength, TruncatedBody}
 use Rattle.answer.specs.declared.Refusal.TheVariants.{NotCarried, OtherSubtype, BodyNotMet, Beyond, NoRoom, TooLarge}
@@ -59,8 +58,8 @@ pub number_unique : (a b : Refusal) → number_of a ≡ number_of b → a ≡ b
 number_unique a b e = sym (named-number a) ∙ ap named e ∙ named-number b
 
 -- an outcome is known by its number
-pub outcome_unique : (a b : Outcome) → outcome_number a ≡ outcome_number b → a ≡ b
-outcome_unique Accepted Accepted e = refl
-outcome_unique Accepted (Refused r) e = absurd (number-not-zero r (sym e))
-outcome_unique (Refused r) Accepted e = absurd (number-not-zero r e)
-outcome_unique (Refused r) (Refused q) e = ap Refused (number_unique r q e)
+pub outcome_unique : (a b : Result Unit Refusal) → outcome_number a ≡ outcome_number b → a ≡ b
+outcome_unique (Ok x) (Ok y) e = refl
+outcome_unique (Ok x) (Err r) e = absurd (number-not-zero r (sym e))
+outcome_unique (Err r) (Ok x) e = absurd (number-not-zero r e)
+outcome_unique (Err r) (Err q) e = ap Err (number_unique r q e)

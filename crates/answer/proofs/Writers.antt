@@ -7,8 +7,8 @@ use borrow.Author.Tests.{le-leb, lt-leb}
 use Rattle.octets.specs.Octets.{patch}
 use Rattle.octets.proofs.Stores.{patch_front}
 use Rattle.answer.specs.Writing.{Writing, wrote, refuse, at_front}
-use Rattle.answer.specs.declared.Written.{Written}
-use Rattle.answer.specs.declared.Written.TheVariants.{Octets, Refused}
+use Rattle.std.specs.Prelude.{Result, Ok, Err}
+use Rattle.answer.specs.declared.Refusal.{Refusal}
 use Rattle.answer.proofs.Refusals.{number-not-zero, number_unique}
 
 module _ (s bs : List ℕ) (n : ℕ) (l : length bs ≡ n) where
@@ -21,9 +21,9 @@ module _ (s bs : List ℕ) (n : ℕ) (l : length bs ≡ n) where
   front_stored h t e = simp (l, le-leb n (length s) h, e, patch_front s bs (rw l h))
 
 -- two answers of a writer that say the same, with the same output, are equal
-pub wrote_unique : (a b : Written) (t u : List ℕ) → wrote a t ≡ wrote b u → (a ≡ b) × (t ≡ u)
-wrote_unique (Octets m) (Octets n) t u e = (ap (λ (w : Writing). Octets w.octets) e, ap (λ (w : Writing). w.output) e)
-wrote_unique (Octets m) (Refused r) t u e = absurd (number-not-zero r (ap (λ (w : Writing). w.number) (sym e)))
-wrote_unique (Refused r) (Octets n) t u e = absurd (number-not-zero r (ap (λ (w : Writing). w.number) e))
-wrote_unique (Refused r) (Refused q) t u e =
-    (ap Refused (number_unique r q (ap (λ (w : Writing). w.number) e)), ap (λ (w : Writing). w.output) e)
+pub wrote_unique : (a b : Result ℕ Refusal) (t u : List ℕ) → wrote a t ≡ wrote b u → (a ≡ b) × (t ≡ u)
+wrote_unique (Ok m) (Ok n) t u e = (ap (λ (w : Writing). Ok w.octets) e, ap (λ (w : Writing). w.output) e)
+wrote_unique (Ok m) (Err r) t u e = absurd (number-not-zero r (ap (λ (w : Writing). w.number) (sym e)))
+wrote_unique (Err r) (Ok n) t u e = absurd (number-not-zero r (ap (λ (w : Writing). w.number) e))
+wrote_unique (Err r) (Err q) t u e =
+    (ap Err (number_unique r q (ap (λ (w : Writing). w.number) e)), ap (λ (w : Writing). w.output) e)

@@ -1,8 +1,6 @@
 -- Refusal numbers (01, Refusal numbers). 0 stands for no refusal, wherever an answer is set out in numbers. 11 is an answer of the
 -- walk, with values of its own.
-use Rattle.std.specs.Prelude.{ℕ}
-use Rattle.answer.specs.declared.Outcome.{Outcome}
-use Rattle.answer.specs.declared.Outcome.TheVariants.{Accepted, Refused}
+use Rattle.std.specs.Prelude.{ℕ, Result, Ok, Err}
 use Rattle.answer.specs.declared.Refusal.{Refusal}
 use Rattle.answer.specs.declared.Refusal.TheVariants.{TruncatedHeader, UnknownType, ShortLength, TruncatedBody}
 use Rattle.answer.specs.declared.Refusal.TheVariants.{NotCarried, OtherSubtype, BodyNotMet, Beyond, NoRoom, TooLarge}
@@ -21,6 +19,6 @@ number_of NoRoom = 9
 number_of TooLarge = 10
 
 -- the number of an outcome, 0 where the call has served
-abbrev pub outcome_number : Outcome → ℕ
-outcome_number Accepted = 0
-outcome_number (Refused r) = number_of r
+abbrev pub outcome_number : Result Unit Refusal → ℕ
+outcome_number (Ok x) = 0
+outcome_number (Err r) = number_of r

@@ -1,51 +1,36 @@
-// What every layer answers with: why a call cannot serve, and what a writer has done.
+// Why a call cannot serve. A call answers `Result<_, Refusal>`, a writer how many octets it has written.
 #![tactic(auto)]
 
 ghost use Rattle.std.specs.Prelude.{◌≡◌};
 ghost use Rattle.answer.specs.Refusal.{number_of};
 
-#[derive(Clone, Copy)]
+// Each refusal with the number by which it is known outside.
+#[derive(Clone, Copy, PartialEq, Eq)]
 pub enum Refusal {
-    TruncatedHeader,
-    UnknownType,
-    ShortLength,
-    TruncatedBody,
-    NotCarried,
-    OtherSubtype,
-    BodyNotMet,
-    Beyond,
-    NoRoom,
-    TooLarge,
+    TruncatedHeader = 1,
+    UnknownType = 2,
+    ShortLength = 3,
+    TruncatedBody = 4,
+    NotCarried = 5,
+    OtherSubtype = 6,
+    BodyNotMet = 7,
+    Beyond = 8,
+    NoRoom = 9,
+    TooLarge = 10,
 }
 
-// Whether a call has served, beside a value that no enum can hold.
-#[derive(Clone, Copy)]
-pub enum Outcome {
-    Accepted,
-    Refused(Refusal),
+impl From<Refusal> for u8 {
+    ghost from_gives = { λ r n. n ≡ number_of r };
+
+    fn from(r: Refusal) -> u8 {
+        r as u8
+    }
 }
 
-// What a writer has done with its lent output.
-#[derive(Clone, Copy)]
-pub enum Written {
-    Octets(usize),
-    Refused(Refusal),
-}
+impl From<Refusal> for u32 {
+    ghost from_gives = { λ r n. n ≡ number_of r };
 
-// The number by which a refusal is known outside.
-pub fn number(r: Refusal) -> u8
-    ensures { result ≡ number_of r }
-{
-    match r {
-        Refusal::TruncatedHeader => 1,
-        Refusal::UnknownType => 2,
-        Refusal::ShortLength => 3,
-        Refusal::TruncatedBody => 4,
-        Refusal::NotCarried => 5,
-        Refusal::OtherSubtype => 6,
-        Refusal::BodyNotMet => 7,
-        Refusal::Beyond => 8,
-        Refusal::NoRoom => 9,
-        Refusal::TooLarge => 10,
+    fn from(r: Refusal) -> u32 {
+        r as u32
     }
 }

@@ -35,6 +35,10 @@ pub record Fields (s : List ℕ) (t k u w : ℕ) : Type 0 where
   pub sub : u ≡ be_at s 6 2
   pub wire : w ≡ be_at s 8 4
 
+pub fields : {s : List ℕ} {t k u w : ℕ} → 12 ≤ length s → t ≡ be_at s 0 4 → k ≡ be_at s 4 2 → u ≡ be_at s 6 2 → w ≡ be_at s 8 4
+    → Fields s t k u w
+fields l t k u w = record { twelve = l; time = t; type = k; sub = u; wire = w }
+
 module _ {s : List ℕ} {t k u w : ℕ} (f : Fields s t k u w) where
   pub header_unknown : known k ≡ false → refused 2 ≡ over s header
   unfolding header over

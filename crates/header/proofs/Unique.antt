@@ -1,23 +1,30 @@
 -- Two answers that say the same are equal: the promises allow one result.
 use mathlib.Core.Path.{◌≡◌, sym, ap}
+use Rattle.std.specs.Prelude.{Result, Ok, Err}
+use Rattle.answer.specs.declared.Refusal.{Refusal}
 use Rattle.answer.proofs.Refusals.{number-not-zero, number_unique}
 use Rattle.header.specs.Read.{Heading, values}
 use Rattle.header.specs.Frame.{Framing, framing}
 use Rattle.header.specs.Back.{header_of}
-use Rattle.header.specs.declared.HeaderAnswer.{HeaderAnswer}
-use Rattle.header.specs.declared.HeaderAnswer.TheVariants.{Read, Refused}
-use Rattle.header.specs.declared.FrameAnswer.{FrameAnswer}
-use Rattle.header.specs.declared.FrameAnswer.TheVariants as F
+use Rattle.header.specs.declared.Headed.{Headed}
+use Rattle.header.specs.declared.Framed.{Framed}
 
-pub values_unique : (a b : HeaderAnswer) → values a ≡ values b → a ≡ b
-values_unique (Read h w) (Read i v) e = ap (λ (x : Heading). Read (header_of x) (record { 0 = x.wire })) e
-values_unique (Read h w) (Refused r) e = absurd (number-not-zero r (ap (λ (x : Heading). x.number) (sym e)))
-values_unique (Refused r) (Read h w) e = absurd (number-not-zero r (ap (λ (x : Heading). x.number) e))
-values_unique (Refused r) (Refused q) e = ap Refused (number_unique r q (ap (λ (x : Heading). x.number) e))
+headed_of : Heading → Headed
+headed_of x = record { header = header_of x; wire = record { 0 = x.wire } }
 
-pub framing_unique : (a b : FrameAnswer) → framing a ≡ framing b → a ≡ b
-framing_unique (F.Framed h w body end) (F.Framed i v body' end') e =
-    ap (λ (x : Framing). F.Framed (header_of x.head) (record { 0 = x.head.wire }) x.body x.end) e
-framing_unique (F.Framed h w body end) (F.Refused r) e = absurd (number-not-zero r (ap (λ (x : Framing). x.head.number) (sym e)))
-framing_unique (F.Refused r) (F.Framed h w body end) e = absurd (number-not-zero r (ap (λ (x : Framing). x.head.number) e))
-framing_unique (F.Refused r) (F.Refused q) e = ap F.Refused (number_unique r q (ap (λ (x : Framing). x.head.number) e))
+framed_of : Framing → Framed
+framed_of x = record { head = headed_of x.head; body = x.body; end = x.end }
+
+pub values_unique : (a b : Result Headed Refusal) → values a ≡ values b → a ≡ b
+unfolding headed_of
+values_unique (Ok x) (Ok y) e = ap (λ (h : Heading). Ok (headed_of h)) e
+values_unique (Ok x) (Err r) e = absurd (number-not-zero r (ap (λ (h : Heading). h.number) (sym e)))
+values_unique (Err r) (Ok x) e = absurd (number-not-zero r (ap (λ (h : Heading). h.number) e))
+values_unique (Err r) (Err q) e = ap Err (number_unique r q (ap (λ (h : Heading). h.number) e))
+
+pub framing_unique : (a b : Result Framed Refusal) → framing a ≡ framing b → a ≡ b
+unfolding headed_of framed_of
+framing_unique (Ok x) (Ok y) e = ap (λ (f : Framing). Ok (framed_of f)) e
+framing_unique (Ok x) (Err r) e = absurd (number-not-zero r (ap (λ (f : Framing). f.head.number) (sym e)))
+framing_unique (Err r) (Ok x) e = absurd (number-not-zero r (ap (λ (f : Framing). f.head.number) e))
+framing_unique (Err r) (Err q) e = ap Err (number_unique r q (ap (λ (f : Framing). f.head.number) e))

@@ -1,12 +1,12 @@
 -- The record that a header frames (RFC 6396, 2): the header, and a body of the stored length. A body that runs past the
 -- stream is 4, after the header's own refusals (01, Refusal numbers).
-use Rattle.std.specs.Prelude.{ℕ, ◌+◌, List, cond, length, drop, ltb, eqb}
+use Rattle.std.specs.Prelude.{ℕ, ◌+◌, List, cond, length, drop, ltb, eqb, Result, Ok, Err}
 use Rattle.answer.specs.Refusal.{number_of}
 use Rattle.rules.specs.Ask.{Ask, done, has, over, ◌>>=◌}
 use Rattle.header.specs.Kind.{size}
 use Rattle.header.specs.Read.{Heading, refused, heading_of, header}
-use Rattle.header.specs.declared.FrameAnswer.{FrameAnswer}
-use Rattle.header.specs.declared.FrameAnswer.TheVariants.{Framed, Refused}
+use Rattle.answer.specs.declared.Refusal.{Refusal}
+use Rattle.header.specs.declared.Framed.{Framed}
 
 -- an answer in numbers: the header, and where the body starts and ends in the stream
 pub record Framing : Type 0 where
@@ -17,10 +17,14 @@ pub record Framing : Type 0 where
 abbrev pub unframed : ℕ → Framing
 unframed n = record { head = refused n; body = 0; end = 0 }
 
+-- what a record says
+abbrev pub framing_of : Framed → Framing
+framing_of x = record { head = heading_of x.head; body = x.body; end = x.end }
+
 -- what each answer says
-abbrev pub framing : FrameAnswer → Framing
-framing (Framed h w body end) = record { head = heading_of h w; body = body; end = end }
-framing (Refused r) = unframed (number_of r)
+abbrev pub framing : Result Framed Refusal → Framing
+framing (Ok x) = framing_of x
+framing (Err r) = unframed (number_of r)
 
 -- the record of a header h that stands at the front, where that is the offset at of the stream
 unfoldable pub framed : ℕ → Heading → Ask Framing

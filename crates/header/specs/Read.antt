@@ -1,14 +1,12 @@
 -- The common header (RFC 6396, 2 and 3): Timestamp 4, Type 2, Subtype 2, Length 4; in a type with microseconds,
 -- Microsecond Timestamp 4 more, which Length counts. Refusals in the order of 01 (Refusal numbers): 1, 2, 3, 1.
 -- 01, Header and lengths: microseconds of 1,000,000 and more are accepted.
-use Rattle.std.specs.Prelude.{ℕ, ◌-◌, List, cond, length, drop, ltb}
+use Rattle.std.specs.Prelude.{ℕ, ◌-◌, List, cond, length, drop, ltb, Result, Ok, Err}
 use Rattle.answer.specs.Refusal.{number_of}
 use Rattle.rules.specs.Ask.{Ask, done, has, number, over}
 use Rattle.header.specs.Kind.{known, timed}
-use Rattle.header.specs.declared.CommonHeader.{CommonHeader}
-use Rattle.header.specs.declared.WireLength.{WireLength}
-use Rattle.header.specs.declared.HeaderAnswer.{HeaderAnswer}
-use Rattle.header.specs.declared.HeaderAnswer.TheVariants.{Read, Refused}
+use Rattle.answer.specs.declared.Refusal.{Refusal}
+use Rattle.header.specs.declared.Headed.{Headed}
 
 -- an answer in numbers: the refusal's number or 0, and the values of the fields
 pub record Heading : Type 0 where
@@ -28,13 +26,13 @@ abbrev pub accepted : ℕ → ℕ → ℕ → ℕ → ℕ → ℕ → Heading
 accepted t k u w stored us = record { number = 0; timestamp = t; kind = k; subtype = u; wire = w; stored = stored; micros = us }
 
 -- what a header and its wire length say
-abbrev pub heading_of : CommonHeader → WireLength → Heading
-heading_of h w = accepted h.timestamp h.kind h.subtype w.0 h.length.0 h.micros
+abbrev pub heading_of : Headed → Heading
+heading_of x = let h = x.header in accepted h.timestamp h.kind h.subtype x.wire.0 h.length.0 h.micros
 
 -- what each answer of the reader says
-abbrev pub values : HeaderAnswer → Heading
-values (Read h w) = heading_of h w
-values (Refused r) = refused (number_of r)
+abbrev pub values : Result Headed Refusal → Heading
+values (Ok x) = heading_of x
+values (Err r) = refused (number_of r)
 
 -- the header at the front of a stream
 unfoldable pub header : Ask Heading

@@ -1,41 +1,39 @@
 // The record that a header frames.
 ghost use Rattle.std.specs.Prelude.{◌≡◌};
-ghost use Rattle.header.specs.Read.{values};
+ghost use Rattle.header.specs.Read.{heading_of};
 ghost use Rattle.header.specs.Frame.{frame_at, frame_of, framing};
 
 use crate::kind::header_size;
 use crate::read::read_header;
-use crate::{CommonHeader, FrameAnswer, HeaderAnswer, WireLength};
+use crate::{Framed, Headed};
 use answer::Refusal;
 
 // The record at an offset of a stream.
-pub fn frame_record(s: &[u8], at: usize) -> FrameAnswer
+pub fn frame_record(s: &[u8], at: usize) -> Result<Framed, Refusal>
     ensures answer { framing result ≡ frame_at s.now at }
 {
-    match read_header(s, at) {
-        HeaderAnswer::Refused(r) => FrameAnswer::Refused(r),
-        HeaderAnswer::Read { header, wire } => frame_of(s, at, header, wire),
-    }
+    let head = read_header(s, at)?;
+    frame_of(s, at, head)
 }
 
 // The record of a header that has been read at an offset.
-pub fn frame_of(s: &[u8], at: usize, header: CommonHeader, wire: WireLength) -> FrameAnswer
-    ensures answer { framing result ≡ frame_of s.now at (values (HeaderAnswer.Read header wire)) }
+pub fn frame_of(s: &[u8], at: usize, head: Headed) -> Result<Framed, Refusal>
+    ensures answer { framing result ≡ frame_of s.now at (heading_of head) }
 {
     let n = s.len();
     if n < at {
-        return FrameAnswer::Refused(Refusal::Beyond);
+        return Err(Refusal::Beyond);
     }
+    let header = head.header;
     let length = header.length;
     let size = header_size(header.kind);
     let octets = size + length.0 as usize;
     if n - at < octets {
-        return FrameAnswer::Refused(Refusal::TruncatedBody);
+        return Err(Refusal::TruncatedBody);
     }
-    FrameAnswer::Framed {
-        header,
-        wire,
+    Ok(Framed {
+        head,
         body: at + size,
         end: at + octets,
-    }
+    })
 }

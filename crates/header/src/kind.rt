@@ -16,23 +16,17 @@ pub fn is_known(kind: u16) -> bool
 }
 
 // Whether the header has microseconds: BGP4MP_ET, ISIS_ET and OSPFv3_ET do.
+#[tactic(auto, unfolding(crate::specs::Kind::timed))]
 pub(crate) fn is_timed(kind: u16) -> bool
     ensures { result ≡ timed kind }
 {
-    match kind {
-        17 => true,
-        33 => true,
-        49 => true,
-        _ => false,
-    }
+    kind == 17 || kind == 33 || kind == 49
 }
 
 // How many octets the header takes.
+#[tactic(auto, unfolding(crate::specs::Kind::size))]
 pub(crate) fn header_size(kind: u16) -> usize
     ensures { result ≡ size kind }
 {
-    if is_timed(kind) {
-        return 16;
-    }
-    12
+    if is_timed(kind) { 16 } else { 12 }
 }

@@ -6,7 +6,6 @@ mod kind;
 mod read;
 mod write;
 
-use answer::Refusal;
 pub use frame::{frame_of, frame_record};
 pub use kind::is_known;
 pub use read::read_header;
@@ -30,23 +29,24 @@ pub struct CommonHeader {
     pub micros: u32,
 }
 
+// A header, and the length that stood in it.
 #[derive(Clone, Copy)]
-pub enum HeaderAnswer {
-    Read {
-        header: CommonHeader,
-        wire: WireLength,
-    },
-    Refused(Refusal),
+pub struct Headed {
+    pub header: CommonHeader,
+    pub wire: WireLength,
 }
 
+// A record: its header, and where its body starts and where it ends, in the stream.
 #[derive(Clone, Copy)]
-pub enum FrameAnswer {
-    Framed {
-        header: CommonHeader,
-        wire: WireLength,
-        // Where the body starts and where it ends, in the stream.
-        body: usize,
-        end: usize,
-    },
-    Refused(Refusal),
+pub struct Framed {
+    pub head: Headed,
+    pub body: usize,
+    pub end: usize,
+}
+
+// A record, and where it starts.
+#[derive(Clone, Copy)]
+pub struct Located {
+    pub start: usize,
+    pub frame: Framed,
 }

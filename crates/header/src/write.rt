@@ -6,37 +6,37 @@ ghost use Rattle.header.specs.Write.{common_octets, write_header};
 
 use crate::kind::{is_known, is_timed};
 use crate::{CommonHeader, WireLength};
-use answer::{Refusal, Written};
+use answer::Refusal;
 
 // The header at the front of the lent output.
-pub fn write_header(out: &mut [u8], header: CommonHeader) -> Written
+pub fn write_header(out: &mut [u8], header: CommonHeader) -> Result<usize, Refusal>
     ensures answer { wrote result out.new ≡ write_header out.old header }
 {
     let kind = header.kind;
     let length = header.length;
     let micros = header.micros;
     if !is_known(kind) {
-        return Written::Refused(Refusal::UnknownType);
+        return Err(Refusal::UnknownType);
     }
     if is_timed(kind) {
         if 4294967291 < length.0 {
-            return Written::Refused(Refusal::TooLarge);
+            return Err(Refusal::TooLarge);
         }
         if out.len() < 16 {
-            return Written::Refused(Refusal::NoRoom);
+            return Err(Refusal::NoRoom);
         }
         put_common(out, header, WireLength(length.0 + 4));
         octets::put_be32(out, 12, micros);
-        return Written::Octets(16);
+        return Ok(16);
     }
     if micros != 0 {
-        return Written::Refused(Refusal::TooLarge);
+        return Err(Refusal::TooLarge);
     }
     if out.len() < 12 {
-        return Written::Refused(Refusal::NoRoom);
+        return Err(Refusal::NoRoom);
     }
     put_common(out, header, WireLength(length.0));
-    Written::Octets(12)
+    Ok(12)
 }
 
 // The twelve octets that every header has.

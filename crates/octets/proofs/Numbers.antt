@@ -1,4 +1,4 @@
--- Big-endian numbers over their width: two numbers side by side, numbers in a part, past the end, equal numbers, and there and
+-- Big-endian numbers over their width: two numbers side by side, numbers in a part, equal numbers, and there and
 -- back.
 use Prim.Native.Nat.{ℕ, zero, suc, ◌+◌, ◌*◌, ◌/◌, ◌%◌, ◌^◌, ◌<◌, ◌≤◌}
 use mathlib.Core.Path.{◌≡◌, refl, sym, ◌∙◌, ap, subst}
@@ -9,7 +9,7 @@ use native.Mathlib.Nat.{div-lt_iff_lt-mul, div-add-mod', mod-lt, one-le-pow}
 use native.Mathlib.Omega.{arith}
 use borrow.Author.Tests.{eq-eqb, ne_eqb, eqb-true, eqb-false}
 use lib.Dec.{eqb}
-use lib.ListN.{length, get_or, take, drop, length-append, length-drop, get_or-eq_default}
+use lib.ListN.{length, get_or, take, drop, length-append, length-drop}
 use lib.Seq.{get_or-take, get_or-drop, get_or_at, take-suc}
 use Rattle.octets.specs.Octets.{be_at, bytes_of, part, Octets}
 
@@ -31,15 +31,6 @@ be_one s at = rw add-zero (omega arith)
 pub be_halves : (s : List ℕ) (at n m : ℕ) {high low : ℕ} → high ≡ be_at s at n → low ≡ be_at s (at + n) m
     → high * 256 ^ m + low ≡ be_at s at (n + m)
 be_halves s at n m h l = rw (h, l) (be_join s at n m)
-
--- past the end there are zeros
-pub be_beyond : (s : List ℕ) (at n : ℕ) → length s ≤ at → be_at s at n ≡ 0
-unfolding be_at
-be_beyond s at zero h = refl
-be_beyond s at (suc n) h =
-    let e : be_at s at n ≡ 0 = be_beyond s at n h in
-    let z : get_or s (at + n) 0 ≡ 0 = get_or-eq_default s 0 (omega arith) in
-    omega arith
 
 -- a number of what is left after p octets, and one within a part
 pub be_drop : (s : List ℕ) (p at n : ℕ) → be_at (drop p s) at n ≡ be_at s (p + at) n

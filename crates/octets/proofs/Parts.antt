@@ -8,9 +8,9 @@ use native.Mathlib.Omega.{arith}
 use borrow.Author.Tests.{leb-true, leb-false, le-leb, lt-leb}
 use lib.Dec.{leb}
 use lib.ListN.{length, get_or, take, drop, length-take, length-drop, take-append-drop, drop_of_length-le, replicate}
-use lib.Seq.{drop-cons, get_or-take, get_or-drop, take_all, length-take-le, take-add, drop-append-le, drop-drop}
-use Rattle.octets.specs.Octets.{be_at, bytes_of, patch, part, Octets}
-use Rattle.octets.proofs.Numbers.{be_drop, be_take, bytes_of_be}
+use lib.Seq.{drop-cons, get_or-take, get_or-drop, take_all, take-add, drop-append-le, drop-drop, length-take-le}
+use Rattle.octets.specs.Octets.{be_at, patch, part}
+use Rattle.octets.proofs.Numbers.{be_drop, be_take}
 use Rattle.octets.proofs.Stores.{stores, patch_front, patch-over, patch-part, patch-within, length-patch}
 
 pub length_part : (s : List ℕ) (at n : ℕ) → at + n ≤ length s → length (part s at n) ≡ n
@@ -62,39 +62,18 @@ patch_lent s e end n bs {t} z h l q =
     ∙ ap (λ (x : List ℕ). take e s ++ x) (append_assoc bs (drop (length bs) (take k d)) (drop k d) ∙ ap (λ (x : List ℕ). bs ++ x) r)
     ∙ sym (append_assoc (take e s) bs (drop (e + length bs) s)) ∙ sym (patch-within s e bs (omega arith))
 
--- ---- copies: n octets of l are stored, and then the m after them, as a part or as a number
-copy_none : (s l : List ℕ) (at : ℕ) → s ≡ patch s at (take 0 l)
-unfolding patch
-copy_none s l at = refl
+-- n octets in the place of the part that was lent from at on, seen in the whole
+pub lent_over : (s bs : List ℕ) (at n : ℕ) {t : List ℕ} → length bs ≡ n → at + n ≤ length s → t ≡ bs
+    → take at s ++ (t ++ drop (at + n - at) (drop at s)) ≡ patch s at bs
+lent_over s bs at n l h q =
+    let k : at + n - at ≡ length bs = omega arith in
+    rw (q, k, drop-drop (length bs) at s)
+    (sym (append_assoc (take at s) bs (drop (at + length bs) s)) ∙ sym (patch-within s at bs (omega arith)))
 
+-- ---- copies: n octets of l are stored, and then the m after them
 pub copy_part : (s l : List ℕ) (at n m : ℕ) {t u : List ℕ} → n ≤ length l → t ≡ patch s at (take n l) → u ≡ patch t (at + n) (part l n m)
     → u ≡ patch s at (take (n + m) l)
 copy_part s l at n m h p q = stores s at n (take n l) (part l n m) (length-take-le n l h) p q ∙ ap (patch s at) (sym (take-add n m l))
-
-copy_number : (s l : List ℕ) (at n m : ℕ) {v : ℕ} {t u : List ℕ} → Octets l → n + m ≤ length l → t ≡ patch s at (take n l) → v ≡ be_at l n m
-    → u ≡ patch t (at + n) (bytes_of m v) → u ≡ patch s at (take (n + m) l)
-copy_number s l at n m {v} {t} o h p e q = copy_part s l at n m (omega arith) p (q ∙ ap (patch t (at + n)) (ap (bytes_of m) e
-    ∙ bytes_of_be l n m o h))
-
-pub copy_sixteen : (s l : List ℕ) {a b c d : ℕ} {t u v w : List ℕ} → Octets l → 16 ≤ length l → a ≡ be_at l 0 4 → b ≡ be_at l 4 4
-    → c ≡ be_at l 8 4 → d ≡ be_at l 12 4
-    → t ≡ patch s 0 (bytes_of 4 a) → u ≡ patch t 4 (bytes_of 4 b) → v ≡ patch u 8 (bytes_of 4 c) → w ≡ patch v 12 (bytes_of 4 d)
-    → w ≡ patch s 0 (take 16 l)
-copy_sixteen s l o h a b c d t u v w =
-    let first = copy_number s l 0 0 4 o (omega arith) (copy_none s l 0) a t in
-    let second = copy_number s l 0 4 4 o (omega arith) first b u in
-    copy_number s l 0 12 4 o (omega arith) (copy_number s l 0 8 4 o (omega arith) second c v) d w
-
--- sixteen octets from one lent part to another
-pub copy_block : (s l : List ℕ) (to at : ℕ) {t : List ℕ} → to + 16 ≤ length s → at + 16 ≤ length l
-    → t ≡ patch (part s to (to + 16 - to)) 0 (take 16 (part l at (at + 16 - at)))
-    → take to s ++ (t ++ drop (to + 16 - to) (drop to s)) ≡ patch s to (part l at 16)
-copy_block s l to at h k q =
-    let z : at + 16 - at ≡ 16 = omega arith in
-    let n : length (part l at 16) ≡ 16 = length_part l at 16 k in
-    let e : take 16 (part l at (at + 16 - at)) ≡ part l at 16 =
-    ap (λ (m : ℕ). take 16 (part l at m)) z ∙ take_all 16 (part l at 16) (le_of_eq n) in
-    patch_lent s to (to + 16) 16 (part l at 16) n h (omega arith) (q ∙ ap (patch (part s to (to + 16 - to)) 0) e)
 
 -- n octets from e on, over some of them that are stored already
 pub copy_over : (s l : List ℕ) (at i e n : ℕ) {t u : List ℕ} → e ≤ i → i ≤ e + n → e + n ≤ length l → at + (e + n) ≤ length s
@@ -110,15 +89,6 @@ copy_over s l at i e n {t} {u} b c d f p q =
     p ∙ ap (λ (v : ℕ). patch s at (take v l)) (sym x) ∙ sym (copy_part s l at e (i - e) (omega arith) refl refl) in
     copy_part s l at e n (omega arith) refl (q ∙ ap (λ (v : List ℕ). patch v (at + e) (part l e n)) before
     ∙ patch-over r (at + e) (part l e (i - e)) (part l e n) (omega arith) (omega arith))
-
--- the same of a part of l that starts at an offset
-pub block_over : (s l : List ℕ) (to at i e n : ℕ) {t u : List ℕ} → e ≤ i → i ≤ e + n → at + (e + n) ≤ length l
-    → to + (e + n) ≤ length s → t ≡ patch s to (part l at i) → u ≡ patch t (to + e) (part l (at + e) n)
-    → u ≡ patch s to (part l at (e + n))
-block_over s l to at i e n {t} a b c d p q =
-    let k = length-drop at l in
-    copy_over s (drop at l) to i e n a b (omega arith) d p
-    (q ∙ ap (λ (x : List ℕ). patch t (to + e) (take n x)) (sym (drop-drop e at l)))
 
 -- stores in the part that was lent from e on, seen in the whole
 pub patch-rest : (s : List ℕ) (e at : ℕ) (bs : List ℕ) {t : List ℕ} → e ≤ length s → t ≡ patch (part s e (length s - e)) at bs

@@ -137,9 +137,6 @@ copy_turn s src at i h e =
     let l : length (take i src) ≡ i = length-take-le i src (omega arith) in
     rw (add-one, take-suc src i 0 h) (stores s at i (take i src) (get_or src i 0 ∷ []) l e refl)
 
-pub copy_all : (s src : List ℕ) (at : ℕ) {t : List ℕ} {i m : ℕ} → i ≤ m → m ≤ i → t ≡ patch s at (take i src) → t ≡ patch s at (take m src)
-copy_all s src at {t} {i} {m} u v p = let z : i ≡ m = omega arith in rw z at p
-
 -- a copy ends with src, or where the room does: what of src has no room is dropped
 pub copy_done : (s src : List ℕ) (at : ℕ) {t : List ℕ} {i m : ℕ} → i ≤ m → m ≤ i → m ≡ min (length s - at) (length src)
     → t ≡ patch s at (take i src) → t ≡ patch s at src

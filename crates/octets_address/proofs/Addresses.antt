@@ -2,37 +2,26 @@
 use Prim.Native.Nat.{ℕ, zero, suc, ◌+◌, ◌-◌, ◌<◌, ◌≤◌}
 use mathlib.Core.Path.{◌≡◌, refl, sym, ◌∙◌, ap}
 use mathlib.Core.List.{List, [], ◌∷◌, ◌++◌, append_assoc, append-nil}
-use mathlib.Core.Bool.{Bool, true, false, not, cond}
+use mathlib.Core.Bool.{Bool, true, false, cond}
 use native.Mathlib.Nat.{add-zero, add-suc, add_assoc, le_of_eq}
 use native.Mathlib.Numerals.{add-one}
 use native.Mathlib.Omega.{arith}
-use borrow.Author.Tests.{le-leb, lt-leb, ne_eqb, not-true, not-false}
+use borrow.Author.Tests.{le-leb, lt-leb, eqb-true, eqb-false}
 use lib.Dec.{eqb, leb}
 use lib.ListN.{length, get_or, take, drop, replicate, length-append, length-drop, length-replicate}
 use lib.Seq.{take-suc, take_all, take_at, drop_at, get_or-drop}
+use Rattle.std.specs.Prelude.{Some, None}
+use Rattle.std.proofs.lemmas.Option.{none-some, same_Some}
 use Rattle.octets.specs.Octets.{be_at, bytes_of, patch, part, Octets}
 use Rattle.octets.proofs.Numbers.{bytes_of_be}
 use Rattle.octets.proofs.Stores.{patch_front, stores, stores_front, length-patch}
 use Rattle.octets.proofs.Parts.{be_front, drop-replicate}
-use Rattle.octets_address.specs.Address.{size_of, address_size, octets_at, address_at, address_in, put_address}
+use Rattle.octets_address.specs.Address.{size_of, address_size, nonzero, octets_at, address_at, address_in, put_address}
 
 pub size-le : (long : Bool) → (4 ≤ size_of long) × (size_of long ≤ 16)
 unfolding size_of
 size-le true = (omega arith, omega arith)
 size-le false = (omega arith, omega arith)
-
-pub size-long : (long : Bool) → not long ≡ false → size_of long ≡ 16
-unfolding size_of
-size-long long e = rw (not-false long e)
-
-size_short : (long : Bool) → not long ≡ true → size_of long ≡ 4
-unfolding size_of
-size_short long e = rw (not-true long e)
-
--- by family
-pub address_rest : (f : ℕ) → (f ≡ 1 → ⊥) → (f ≡ 2 → ⊥) → 0 ≡ address_size f
-unfolding address_size
-address_rest f a b = simp (ne_eqb _ _ a, ne_eqb _ _ b)
 
 -- of a family that there is, an address is long where it has sixteen octets
 pub family_size : (f : ℕ) {x : ℕ} → x ≡ address_size f → (x ≡ 0 → ⊥) → size_of (eqb x 16) ≡ x
@@ -44,6 +33,26 @@ family_size f {x} e z = by_tests (eqb f 1) (eqb f 2) e
     by_tests false true q = rw q
     by_tests false false q = absurd (z q)
 
+-- what is found where there is a number, and where there is none
+module _ (n : ℕ) where
+  pub nonzero_some : {x : ℕ} → Some x ≡ nonzero n → (x ≡ n) × (x ≡ 0 → ⊥)
+  unfolding nonzero
+  nonzero_some {x} = by_test (eqb n 0) refl
+    where
+      by_test : (t : Bool) → eqb n 0 ≡ t → Some x ≡ cond t None (Some n) → (x ≡ n) × (x ≡ 0 → ⊥)
+      by_test true z e = absurd (none-some x (sym e))
+      by_test false z e =
+          let same : x ≡ n = same_Some _ _ e in
+          (same, λ y. eqb-false n 0 z (sym same ∙ y))
+
+  pub nonzero_none : None ≡ nonzero n → n ≡ 0
+  unfolding nonzero
+  nonzero_none = by_test (eqb n 0) refl
+    where
+      by_test : (t : Bool) → eqb n 0 ≡ t → None ≡ cond t None (Some n) → n ≡ 0
+      by_test true z e = eqb-true n 0 z
+      by_test false z e = absurd (none-some n e)
+
 pub address_le : (f : ℕ) → address_size f ≤ 16
 unfolding address_size
 address_le f = by_first (eqb f 1) (eqb f 2)
@@ -52,6 +61,19 @@ address_le f = by_first (eqb f 1) (eqb f 2)
     by_first true u = omega arith
     by_first false true = omega arith
     by_first false false = omega arith
+
+-- the size that is found for a family
+pub found_le : (f : ℕ) {x : ℕ} → Some x ≡ nonzero (address_size f) → x ≤ 16
+found_le f e = rw (nonzero_some (address_size f) e).0 (address_le f)
+
+pub ruleset found = (found_le, nonzero_some, nonzero_none)
+
+-- of it, an address is long where it has sixteen octets
+pub found_size : (f : ℕ) {x : ℕ} → Some x ≡ nonzero (address_size f) → size_of (eqb x 16) ≡ x
+found_size f e = let z = nonzero_some (address_size f) e in family_size f z.0 z.1
+
+pub size_most : (x : ℕ) → size_of (eqb x 16) ≡ x → x ≤ 16
+size_most x e = omega (arith, (size-le (eqb x 16)).1)
 
 -- ---- octets where they stand
 pub length-octets : (s : List ℕ) (at n : ℕ) → length (octets_at s at n) ≡ n
@@ -96,22 +118,11 @@ four_stored s l to at {t} {v} o k e f =
     f ∙ ap (patch s to) (ap (bytes_of 4) (e ∙ b) ∙ bytes_of_be l at 4 o k ∙ sym (octets-part l at 4 k))
 
 -- s has n octets of an address at to, and then the m after them
-stored_join : (s l : List ℕ) (to at n m : ℕ) {t u : List ℕ} → t ≡ patch s to (octets_at l at n)
+pub stored_join : (s l : List ℕ) (to at n m : ℕ) {t u : List ℕ} → t ≡ patch s to (octets_at l at n)
     → u ≡ patch t (to + n) (octets_at l (at + n) m)
     → u ≡ patch s to (octets_at l at (n + m))
 stored_join s l to at n m e f = stores s to n (octets_at l at n) (octets_at l (at + n) m) (length-octets l at n) e f
     ∙ ap (patch s to) (octets_join l at n m)
-
-module _ (s l : List ℕ) (to at : ℕ) (long : Bool) {t : List ℕ} (first : t ≡ patch s to (octets_at l at 4)) where
-  pub short_stored : not long ≡ true → t ≡ patch s to (octets_at l at (size_of long))
-  short_stored e = first ∙ ap (λ (n : ℕ). patch s to (octets_at l at n)) (sym (size_short long e))
-
-  pub long-stored : {u v x : List ℕ} → not long ≡ false → u ≡ patch t (to + 4) (octets_at l (at + 4) 4)
-      → v ≡ patch u (to + 8) (octets_at l (at + 8) 4)
-      → x ≡ patch v (to + 12) (octets_at l (at + 12) 4) → x ≡ patch s to (octets_at l at (size_of long))
-  long-stored e f g h =
-      stored_join s l to at 12 4 (stored_join s l to at 8 4 (stored_join s l to at 4 4 first f) g) h
-      ∙ ap (λ (n : ℕ). patch s to (octets_at l at n)) (sym (size-long long e))
 
 -- ---- in sixteen octets
 module _ (s : List ℕ) (at n : ℕ) where

@@ -1,6 +1,7 @@
 -- An address of four or sixteen octets (RFC 6396, 4: IPv4 and IPv6), and sixteen octets that hold either (01, Peer table): a four-octet
 -- address occupies the first four of 16, zeros after.
 use Rattle.std.specs.Prelude.{ℕ, zero, suc, ◌+◌, ◌-◌, List, [], ◌∷◌, ◌++◌, Bool, cond, length, get_or, replicate, eqb, leb}
+use Rattle.std.specs.Prelude.{Option, Some, None}
 use Rattle.octets.specs.Octets.{patch}
 
 -- how many octets an address takes, a long one or a short one
@@ -10,6 +11,10 @@ size_of long = cond long 16 4
 -- the same by its family, 1 for IPv4 and 2 for IPv6 (RFC 6396, 4.2 and 4.4); 0 where there is no such family
 unfoldable pub address_size : ℕ → ℕ
 address_size f = cond (eqb f 1) 4 (cond (eqb f 2) 16 0)
+
+-- a number, none in the place of 0
+unfoldable pub nonzero : ℕ → Option ℕ
+nonzero n = cond (eqb n 0) None (Some n)
 
 -- the n octets of s from at on; octets past the end count as 0
 unfoldable pub octets_at : List ℕ → ℕ → ℕ → List ℕ

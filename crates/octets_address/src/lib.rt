@@ -4,9 +4,10 @@
 
 ghost use Rattle.std.specs.Prelude.{◌≡◌, ◌≤◌, ◌+◌, length};
 ghost use Rattle.octets.specs.Octets.{patch};
-ghost use Rattle.octets_address.specs.Address.{address_in, address_size, octets_at, put_address, size_of};
+ghost use Rattle.octets_address.specs.Address.{address_in, address_size, nonzero, octets_at, put_address, size_of};
 
 // How many octets an address takes.
+#[tactic(auto, unfolding(crate::specs::Address::size_of))]
 pub fn size_of(long: bool) -> usize
     ensures answer { result ≡ size_of long }
 {
@@ -16,14 +17,15 @@ pub fn size_of(long: bool) -> usize
     4
 }
 
-// How many octets an address of a family takes, 0 for a family that is not known.
-pub fn address_size(family: u16) -> usize
-    ensures answer { result ≡ address_size family }
+// How many octets an address of a family takes; none for a family that is not known.
+#[tactic(auto, unfolding(crate::specs::Address::address_size, crate::specs::Address::nonzero))]
+pub fn address_size(family: u16) -> Option<usize>
+    ensures answer { result ≡ nonzero (address_size family) }
 {
     match family {
-        1 => 4,
-        2 => 16,
-        _ => 0,
+        1 => Some(4),
+        2 => Some(16),
+        _ => None,
     }
 }
 
@@ -42,12 +44,11 @@ fn put_fours(out: &mut [u8], to: usize, s: &[u8], at: usize, long: bool)
     ensures { out.new ≡ patch out.old to (octets_at s.now at (size_of long)) }
 {
     put_four(out, to, s, at);
-    if !long {
-        return;
+    if long {
+        for i in 1..4 {
+            put_four(out, to + 4 * i, s, at + 4 * i);
+        }
     }
-    put_four(out, to + 4, s, at + 4);
-    put_four(out, to + 8, s, at + 8);
-    put_four(out, to + 12, s, at + 12);
 }
 
 // The address at an offset, in the first of sixteen octets.

@@ -1,9 +1,11 @@
-use mathlib.Core.Path.{sym, ◌∙◌}
-use Rattle.octets.proofs.Numbers.{be_beyond, be_halves, be_one}
+use mathlib.Core.Path.{◌≡◌, ◌∙◌}
+use native.Mathlib.Omega.{arith}
+use Rattle.octets.specs.Octets.{be_at}
+use Rattle.octets.proofs.Words.{be_taken}
 use Rattle.octets.proofs.be16.Goals as goal
 
-pub returns-then-s-at : goal.returns-then-s-at
-returns-then-s-at c = sym (be_beyond _ _ 2 c.if-s-at.true)
-
 pub returns : goal.returns
-returns c = be_halves _ _ 1 1 (c.octet-high.ensures ∙ be_one _ _) (c.octet-low.ensures ∙ be_one _ _)
+unfolding be_at
+returns c =
+    let number : c.from_be_bytes.result ≡ be_at c.word.result 0 2 = omega (arith, c.from_be_bytes.ensures) in
+    number ∙ be_taken _ _ _ 2 c.word.ensures

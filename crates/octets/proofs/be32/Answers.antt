@@ -1,9 +1,11 @@
-use mathlib.Core.Path.{sym}
-use Rattle.octets.proofs.Numbers.{be_beyond, be_halves}
+use mathlib.Core.Path.{◌≡◌, ◌∙◌}
+use native.Mathlib.Omega.{arith}
+use Rattle.octets.specs.Octets.{be_at}
+use Rattle.octets.proofs.Words.{be_taken}
 use Rattle.octets.proofs.be32.Goals as goal
 
-pub returns-then-s-at : goal.returns-then-s-at
-returns-then-s-at c = sym (be_beyond _ _ 4 c.if-s-at.true)
-
 pub returns : goal.returns
-returns c = be_halves _ _ 2 2 c.be16-high.ensures c.be16-low.ensures
+unfolding be_at
+returns c =
+    let number : c.from_be_bytes.result ≡ be_at c.word.result 0 4 = omega (arith, c.from_be_bytes.ensures) in
+    number ∙ be_taken _ _ _ 4 c.word.ensures

@@ -1,8 +1,12 @@
-use Rattle.octets.proofs.Parts.{copy_sixteen}
+use Prim.Native.Nat.{ℕ, ◌+◌, ◌-◌}
+use mathlib.Core.Path.{◌≡◌, ◌∙◌, ap}
+use native.Mathlib.Omega.{arith}
+use Rattle.octets.specs.Octets.{part}
+use Rattle.octets.proofs.Parts.{lent_over, length_part}
 use Rattle.octets_copies.proofs.put_sixteen.Goals as goal
 
 pub returns : goal.returns
 returns c =
-    copy_sixteen _ _ (λ i. (c.shared_slice_known-1.given i).fits) c.requires
-    c.be32-a.ensures c.be32-b.ensures c.be32-c.ensures c.be32-d.ensures
-    c.put_be32.ensures c.put_be32-2.ensures c.put_be32-3.ensures c.put_be32-4.ensures
+    let long : c.args.at + 16 - c.args.at ≡ 16 = omega arith in
+    let read = c.copy_from_slice-2.ensures.after ∙ c.copy_from_slice.ensures.after ∙ ap (λ (n : ℕ). part c.args.src.now c.args.at n) long in
+    lent_over _ _ _ 16 (length_part _ _ 16 c.requires.1) c.requires.0 read

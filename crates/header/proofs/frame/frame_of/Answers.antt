@@ -9,7 +9,7 @@ returns-then-n-at c = record { answer = of_beyond _ _ _ c.if-n-at.true }
 
 pub overflow_add-octets : goal.overflow_add-octets
 overflow_add-octets c =
-    let z = size_most c.args.header.kind in
+    let z = size_most c.args.head.header.kind in
     let e = c.header_size-size.ensures in
     omega arith
 

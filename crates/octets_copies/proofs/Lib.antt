@@ -1,2 +1,0 @@
--- Rooms: whether octets lie within others.
-mod Rooms
