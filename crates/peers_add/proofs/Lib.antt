@@ -1,5 +1,4 @@
--- Steps: what the helpers decide, case by case, and the slots after it. Keeps: what adding gives and keeps. Unique: answers that say
--- the same are equal.
-pub mod Steps
+-- Cases: what the call answers, case by case. Keeps: what adding gives and keeps. Unique: answers that say the same are equal.
+pub mod Cases
 pub mod Keeps
 pub mod Unique

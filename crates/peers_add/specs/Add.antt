@@ -1,13 +1,14 @@
 -- Adding a peer (01, Peer table): 8 for a wrong count; then a known address gives its id and changes nothing; otherwise the id is
 -- the count, with 10 at 65,535 peers, then 9 for no slot.
-use Rattle.std.specs.Prelude.{ℕ, List, cond, length, set, leb, eqb}
+use Rattle.std.specs.Prelude.{ℕ, List, cond, length, set, leb, eqb, Result, Ok, Err}
 use Rattle.answer.specs.Refusal.{number_of}
+use Rattle.answer.specs.declared.Refusal.{Refusal}
 use Rattle.peers_entry.specs.Peer.{stored}
 use Rattle.peers_entry.specs.declared.Peer.{Peer}
 use Rattle.peers_slots.specs.Used.{wrong_count}
 use Rattle.peers_find.specs.Find.{look_up}
-use Rattle.peers_add.specs.declared.AddAnswer.{AddAnswer}
-use Rattle.peers_add.specs.declared.AddAnswer.TheVariants.{Known, Added, Refused}
+use Rattle.peers_add.specs.declared.PeerId.{PeerId}
+use Rattle.peers_add.specs.declared.PeerId.TheVariants.{Known, Added}
 
 -- an answer in numbers: the refusal's number or 0, the id, how many peers were added, and the slots after the call
 pub record Adding : Type 0 where
@@ -17,10 +18,10 @@ pub record Adding : Type 0 where
   pub slots : List Peer
 
 -- an answer, set out with the slots l that the call leaves
-abbrev pub adding : AddAnswer → List Peer → Adding
-adding (Known id) l = record { number = 0; id = id; added = 0; slots = l }
-adding (Added id) l = record { number = 0; id = id; added = 1; slots = l }
-adding (Refused r) l = record { number = number_of r; id = 0; added = 0; slots = l }
+abbrev pub adding : Result PeerId Refusal → List Peer → Adding
+adding (Ok (Known id)) l = record { number = 0; id = id; added = 0; slots = l }
+adding (Ok (Added id)) l = record { number = 0; id = id; added = 1; slots = l }
+adding (Err why) l = record { number = number_of why; id = 0; added = 0; slots = l }
 
 -- the refusal n, which leaves the slots l
 abbrev pub not_added : ℕ → List Peer → Adding

@@ -1,3 +1,2 @@
--- Add: a peer added. Steps: what the call's own helpers decide.
+-- Add: a peer added.
 pub mod Add
-pub mod Steps

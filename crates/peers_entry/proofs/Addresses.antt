@@ -2,7 +2,7 @@
 use Prim.Native.Nat.{ℕ, zero, suc, ◌+◌, ◌*◌, ◌<◌}
 use mathlib.Core.Path.{◌≡◌, refl, sym, ◌∙◌, ap}
 use mathlib.Core.List.{List}
-use mathlib.Core.Bool.{Bool, true, false, ◌&&◌, and-true, and-false, and_assoc}
+use mathlib.Core.Bool.{Bool, true, false, ◌&&◌, ◌||◌, and-true, and_assoc}
 use native.Mathlib.Nat.{add-zero, add-suc}
 use native.Mathlib.Omega.{arith}
 use borrow.Author.Tests.{eq-eqb, ne_eqb, eqb-true, eqb-false}
@@ -65,6 +65,17 @@ module _ (a b : List ℕ) (o : Octets a) (p : Octets b) (at : ℕ) where
       by_test true t = sym (eq-eqb _ _ (equal (eqb-true x y t)))
       by_test false t = sym (ne_eqb _ _ (λ q. eqb-false x y t (apart q)))
 
+reorder : (x y z w : Bool) → (x && y && z && w) ≡ (x && (w && y && z))
+reorder true true true true = refl
+reorder true true true false = refl
+reorder true true false true = refl
+reorder true true false false = refl
+reorder true false true true = refl
+reorder true false true false = refl
+reorder true false false true = refl
+reorder true false false false = refl
+reorder false y z w = refl
+
 module _ (a b : List ℕ) (o : Octets a) (p : Octets b) where
   -- n octets, and the m after them as one number
   same_join : (n m : ℕ) → (same_octets n a b && eqb (be_at a n m) (be_at b n m)) ≡ same_octets (n + m) a b
@@ -84,38 +95,15 @@ module _ (a b : List ℕ) (o : Octets a) (p : Octets b) where
   same_all : (four 0 && four 4 && four 8 && four 12) ≡ same_octets 16 a b
   same_all = rw (same_first, same_join 4 4, same_join 8 4) (same_join 12 4)
 
-  module _ (kind : ℕ) where
-    all_long : (address_size kind ≡ 4 → ⊥) → same_octets (address_size kind) a b ≡ (four 0 && four 4 && four 8 && four 12)
-    all_long z = ap (λ (n : ℕ). same_octets n a b) (address_either kind z) ∙ sym same_all
+  -- the first four, and where the address has more, the others
+  pub decides : (kind : ℕ)
+      → (four 0 && (eqb (address_size kind) 4 || (four 12 && four 4 && four 8))) ≡ same_octets (address_size kind) a b
+  decides kind = by_size (eqb (address_size kind) 4) refl
+    where
+      long : same_octets 16 a b ≡ (four 0 && (four 12 && four 4 && four 8))
+      long = sym same_all ∙ reorder (four 0) (four 4) (four 8) (four 12)
 
-    all_short : address_size kind ≡ 4 → same_octets (address_size kind) a b ≡ four 0
-    all_short e = ap (λ (n : ℕ). same_octets n a b) e ∙ sym same_first
-
-    pub first-apart : {x : Bool} → x ≡ four 0 → x ≡ false → false ≡ same_octets (address_size kind) a b
-    first-apart {x} e z = by_size (eqb (address_size kind) 4) refl
-      where
-        none : four 0 ≡ false
-        none = sym e ∙ z
-
-        by_size : (t : Bool) → eqb (address_size kind) 4 ≡ t → false ≡ same_octets (address_size kind) a b
-        by_size true t = sym (all_short (eqb-true _ _ t) ∙ none)
-        by_size false t = sym (all_long (eqb-false _ _ t) ∙ simp none)
-
-    -- w is the size of the address
-    module _ {w : ℕ} (sized : w ≡ address_size kind) where
-      pub same_short : {x : Bool} → w ≡ 4 → x ≡ four 0 → x ≡ true → true ≡ same_octets (address_size kind) a b
-      same_short k e z = sym (all_short (sym sized ∙ k) ∙ sym e ∙ z)
-
-      module _ (k : w ≡ 4 → ⊥) where
-        fours : same_octets (address_size kind) a b ≡ (four 0 && four 4 && four 8 && four 12)
-        fours = all_long (λ y. k (sized ∙ y))
-
-        pub last_apart : {x : Bool} → x ≡ four 12 → x ≡ false → false ≡ same_octets (address_size kind) a b
-        last_apart e z = sym (fours ∙ simp (sym e ∙ z, and-false))
-
-        pub third_apart : {x : Bool} → x ≡ four 8 → x ≡ false → false ≡ same_octets (address_size kind) a b
-        third_apart e z = sym (fours ∙ simp (sym e ∙ z, and-false))
-
-        pub second_decides : {x y z u : Bool} → x ≡ four 0 → x ≡ true → y ≡ four 12 → y ≡ true → z ≡ four 8 → z ≡ true → u ≡ four 4
-            → u ≡ same_octets (address_size kind) a b
-        second_decides x i y j z k u = rw u (sym (fours ∙ simp (sym x ∙ i, sym y ∙ j, sym z ∙ k, and-true)))
+      by_size : (t : Bool) → eqb (address_size kind) 4 ≡ t
+          → (four 0 && (t || (four 12 && four 4 && four 8))) ≡ same_octets (address_size kind) a b
+      by_size true t = and-true (four 0) ∙ same_first ∙ ap (λ (n : ℕ). same_octets n a b) (sym (eqb-true _ _ t))
+      by_size false t = sym (ap (λ (n : ℕ). same_octets n a b) (address_either kind (eqb-false _ _ t)) ∙ long)

@@ -15,7 +15,7 @@ use Rattle.octets.proofs.Parts.{be_front}
 use Rattle.octets_address.specs.Address.{octets_at, address_in, put_address}
 use Rattle.octets_address.proofs.Addresses.{length-octets, address_fits, put_fits}
 use Rattle.peers_entry.specs.Peer.{wide, address_size, as_size, peer_size, peer_at, unread, read_peer}
-use Rattle.peers_entry.specs.Peer.{stored, key_of, same_octets}
+use Rattle.peers_entry.specs.Peer.{stored, same_octets}
 use Rattle.peers_entry.specs.Peer.{same_address, peer_octets, put_peer}
 use Rattle.peers_entry.specs.declared.Peer.{Peer}
 use Rattle.peers_entry.proofs.Sizes.{as_either, address_le, size_is}
@@ -151,15 +151,6 @@ module _ (s : List ℕ) (at : ℕ) (p : Peer) where
         stores s at (5 + a) (kinds ++ ids ++ address) (bytes_of (as_size p.kind) p.asn) more then (rw add_assoc at hw) in
         let m : at + peer_size p.kind ≤ length s = omega arith in
         rw (last, ha, type_size) (simp (le-leb _ _ m))
-
--- ---- a key
-pub key_long : {v6 : Bool} (l : List ℕ) → v6 ≡ true → record { kind = 1; id = 0; addr = l; asn = 0 } ≡ key_of v6 l
-unfolding key_of
-key_long l e = rw e
-
-pub key_short : {v6 : Bool} (l : List ℕ) → v6 ≡ false → record { kind = 0; id = 0; addr = l; asn = 0 } ≡ key_of v6 l
-unfolding key_of
-key_short l e = rw e
 
 -- ---- a peer that ends inside the body
 pub read_fits : (s : List ℕ) (at : ℕ) → at + peer_size (get_or s at 0) ≤ length s

@@ -1,14 +1,12 @@
 -- What the type octet decides, case by case, and the bounds of the sizes.
-use Prim.Native.Nat.{ℕ, ◌+◌, ◌/◌, ◌%◌, ◌≤◌}
+use Prim.Native.Nat.{ℕ, ◌+◌, ◌%◌, ◌≤◌}
 use mathlib.Core.Path.{◌≡◌, refl}
 use mathlib.Core.Bool.{Bool, true, false}
 use native.Mathlib.Omega.{arith}
-use borrow.Author.Tests.{eq-eqb, ne_eqb}
-use lib.Dec.{ltb, eqb}
+use lib.Dec.{eqb}
 use Rattle.octets_address.specs.Address.{size_of}
 use Rattle.octets_address.proofs.Addresses.{size-le}
-use Rattle.peers_entry.specs.Peer.{wide, address_size, as_size, peer_size, unfit}
-use Rattle.peers_entry.specs.declared.Peer.{Peer}
+use Rattle.peers_entry.specs.Peer.{wide, address_size, as_size, peer_size}
 
 module _ (kind : ℕ) where
   pub address_either : (address_size kind ≡ 4 → ⊥) → address_size kind ≡ 16
@@ -18,14 +16,6 @@ module _ (kind : ℕ) where
       case : (z : Bool) → eqb (kind % 2) 1 ≡ z → (address_size kind ≡ 4 → ⊥) → address_size kind ≡ 16
       case true e f = simp e
       case false e f = absurd (f (simp e))
-
-  pub as_long : kind / 2 % 2 ≡ 1 → 4 ≡ as_size kind
-  unfolding as_size wide
-  as_long e = simp (eq-eqb _ _ e)
-
-  pub as_short : (kind / 2 % 2 ≡ 1 → ⊥) → 2 ≡ as_size kind
-  unfolding as_size wide
-  as_short e = simp (ne_eqb _ _ e)
 
   pub as_either : (as_size kind ≡ 4 → ⊥) → as_size kind ≡ 2
   unfolding as_size
@@ -58,13 +48,3 @@ module _ (kind : ℕ) where
   pub size_is : peer_size kind ≡ 5 + address_size kind + as_size kind
   unfolding peer_size
   size_is = refl
-
--- whether the AS fits, by the type's two cases
-module _ (p : Peer) where
-  pub fits-wide : p.kind / 2 % 2 ≡ 1 → false ≡ unfit p
-  unfolding unfit wide
-  fits-wide e = simp (eq-eqb _ _ e)
-
-  pub fits_narrow : (p.kind / 2 % 2 ≡ 1 → ⊥) → ltb 65535 p.asn ≡ unfit p
-  unfolding unfit wide
-  fits_narrow e = simp (ne_eqb _ _ e)

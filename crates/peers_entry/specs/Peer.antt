@@ -1,8 +1,9 @@
 -- One peer of a PEER_INDEX_TABLE (RFC 6396, 4.3.1; 01, Peer table): Peer Type 1, Peer BGP ID 4, Peer IP Address 4 or 16,
 -- Peer AS 2 or 4. Of the type, value 1 means an IPv6 address and value 2 an AS of four octets; other bits are kept.
 use Rattle.std.specs.Prelude.{ℕ, zero, suc, ◌+◌, ◌*◌, ◌/◌, ◌%◌, List, [], ◌∷◌, ◌++◌, Bool, true, cond, not, ◌&&◌, length, get_or}
-use Rattle.std.specs.Prelude.{replicate, leb, ltb, eqb}
-use Rattle.answer.specs.Refusal.{outcome_number}
+use Rattle.std.specs.Prelude.{replicate, leb, ltb, eqb, Result, Ok, Err}
+use Rattle.answer.specs.Refusal.{number_of}
+use Rattle.answer.specs.declared.Refusal.{Refusal}
 use Rattle.octets.specs.Octets.{be_at, bytes_of, patch}
 use Rattle.octets_address.specs.Address.{size_of, octets_at, address_at}
 use Rattle.peers_entry.specs.declared.Peer.{Peer}
@@ -49,8 +50,9 @@ abbrev pub unread : ℕ → Reading
 unread n = record { number = n; peer = nobody; next = 0 }
 
 -- what each answer of the reader says
-abbrev pub reading : PeerRead → Reading
-reading r = record { number = outcome_number r.outcome; peer = r.peer; next = r.next }
+abbrev pub reading : Result PeerRead Refusal → Reading
+reading (Ok r) = record { number = 0; peer = r.peer; next = r.next }
+reading (Err why) = unread (number_of why)
 
 -- the peer at an offset of the body s: 8 for an offset beyond it, 7 where the peer runs past its end
 unfoldable pub read_peer : List ℕ → ℕ → Reading

@@ -6,7 +6,6 @@ mod kind;
 mod record;
 
 pub use address::{address_key, same_address, stored_peer};
-use answer::Outcome;
 pub use kind::{peer_size, unfit_as};
 pub use record::{put_peer, read_peer};
 
@@ -22,10 +21,9 @@ pub struct Peer {
     pub asn: u32,
 }
 
-// What reading one peer answers.
+// A peer that was read.
 #[derive(Clone, Copy)]
 pub struct PeerRead {
-    pub outcome: Outcome,
     pub peer: Peer,
     // Where the next peer starts.
     pub next: usize,

@@ -1,12 +1,11 @@
 // One peer, read and written.
 ghost use Rattle.std.specs.Prelude.{◌≡◌, ◌≤◌, ◌+◌, length};
-ghost use Rattle.answer.specs.Refusal.{number_of};
 ghost use Rattle.octets.specs.Octets.{be_at, bytes_of, patch};
-ghost use Rattle.peers_entry.specs.Peer.{as_size, put_peer, read_peer, reading, unread};
+ghost use Rattle.peers_entry.specs.Peer.{as_size, put_peer, read_peer, reading};
 
-use crate::kind::{address_size, as_size, peer_size};
+use crate::kind::{address_size, as_size, long, peer_size};
 use crate::{Peer, PeerRead};
-use answer::{Outcome, Refusal};
+use answer::Refusal;
 
 // The AS that stands in the octets that the type gives it. Its first two octets and its last two are read of either type, so that
 // there is no branch to foresee.
@@ -27,48 +26,29 @@ fn read_as(s: &[u8], at: usize, kind: u8) -> u32
 }
 
 // The peer at an offset of a body.
-pub fn read_peer(body: &[u8], at: usize) -> PeerRead
+pub fn read_peer(body: &[u8], at: usize) -> Result<PeerRead, Refusal>
     ensures answer { reading result ≡ read_peer body.now at }
 {
     let n = body.len();
     if n < at {
-        return refuse(Refusal::Beyond);
+        return Err(Refusal::Beyond);
     }
     let kind = octets::octet(body, at);
     let size = peer_size(kind);
     if n - at < size {
-        return refuse(Refusal::BodyNotMet);
+        return Err(Refusal::BodyNotMet);
     }
-    let length = address_size(kind);
     let start = at + 1;
     let front = at + 5;
-    let addr = octets_address::read_address(body, front, kind % 2 == 1);
-    PeerRead {
-        outcome: Outcome::Accepted,
-        peer: Peer {
-            kind,
-            id: octets::be32(&body[start..front], 0),
-            addr,
-            asn: read_as(body, front + length, kind),
-        },
-        next: at + size,
-    }
-}
-
-// A refusal, with no peer.
-fn refuse(why: Refusal) -> PeerRead
-    ensures { reading result ≡ unread (number_of why) }
-{
-    PeerRead {
-        outcome: Outcome::Refused(why),
-        peer: Peer {
-            kind: 0,
-            id: 0,
-            addr: [0u8; 16],
-            asn: 0,
-        },
-        next: 0,
-    }
+    let addr = octets_address::read_address(body, front, long(kind));
+    let peer = Peer {
+        kind,
+        id: octets::be32(&body[start..front], 0),
+        addr,
+        asn: read_as(body, front + address_size(kind), kind),
+    };
+    let next = at + size;
+    Ok(PeerRead { peer, next })
 }
 
 // The AS in the octets that the type gives it: the high half, and the low half in the last two octets, which are the same two
@@ -89,10 +69,7 @@ pub fn put_peer(out: &mut [u8], at: usize, p: Peer) -> usize
     let n = out.len();
     let kind = p.kind;
     let size = peer_size(kind);
-    if n < size {
-        return at;
-    }
-    if n - size < at {
+    if n < size || n - size < at {
         return at;
     }
     let length = address_size(kind);
@@ -100,7 +77,7 @@ pub fn put_peer(out: &mut [u8], at: usize, p: Peer) -> usize
     octets_copies::store32(out, at + 1, p.id);
     let front = at + 5;
     let addr = p.addr;
-    octets_address::put_address(out, front, addr, kind % 2 == 1);
+    octets_address::put_address(out, front, addr, long(kind));
     put_as(out, front + length, kind, p.asn);
     at + size
 }

@@ -1,11 +1,10 @@
 -- Lookup by address (01, Peer table): the highest id that holds the address, or 8 if none does.
-use Rattle.std.specs.Prelude.{ℕ, zero, suc, List, Bool, cond, length, get_or}
+use Rattle.std.specs.Prelude.{ℕ, zero, suc, List, Bool, cond, length, get_or, Result, Ok, Err}
 use Rattle.answer.specs.Refusal.{number_of}
+use Rattle.answer.specs.declared.Refusal.{Refusal}
 use Rattle.peers_entry.specs.Peer.{nobody, same_address, key_of}
 use Rattle.peers_entry.specs.declared.Peer.{Peer}
 use Rattle.peers_slots.specs.Used.{wrong_count}
-use Rattle.peers_find.specs.declared.FindAnswer.{FindAnswer}
-use Rattle.peers_find.specs.declared.FindAnswer.TheVariants.{Id, Refused}
 
 -- an answer in numbers: the refusal's number or 0, and the id
 pub record Finding : Type 0 where
@@ -21,9 +20,9 @@ abbrev pub lost : ℕ → Finding
 lost n = record { number = n; id = 0 }
 
 -- what each answer says
-abbrev pub finding : FindAnswer → Finding
-finding (Id id) = found id
-finding (Refused r) = lost (number_of r)
+abbrev pub finding : Result ℕ Refusal → Finding
+finding (Ok id) = found id
+finding (Err why) = lost (number_of why)
 
 -- of the first n slots, the highest that holds the key's address
 unfoldable pub highest : Peer → List Peer → ℕ → Finding

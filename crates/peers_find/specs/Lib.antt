@@ -1,3 +1,2 @@
--- Find: a lookup. Steps: what the calls' own helpers decide.
+-- Find: a lookup.
 pub mod Find
-pub mod Steps

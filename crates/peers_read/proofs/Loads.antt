@@ -9,18 +9,18 @@ use borrow.Author.Tests.{lt-ltb, le-ltb, ltb-false, eqb-true, eqb-false}
 use lib.ListN.{length, set, get_or, length-set}
 use lib.Seq.{get_or-set_same, get_or-set_other}
 use lib.Dec.{ltb, leb, eqb}
-use Rattle.answer.specs.Refusal.{number_of}
+use Rattle.std.specs.Prelude.{Result, Ok, Err, IsOk}
+use Rattle.answer.proofs.Refusals.{number-not-zero}
 use Rattle.answer.specs.declared.Refusal.{Refusal}
-use Rattle.peers_entry.specs.Peer.{nobody, peer_at, Reading, read_peer}
-use Rattle.peers_table.specs.Table.{Heading, heading, refused, end_at, last_end, check_peers}
+use Rattle.peers_entry.specs.Peer.{nobody, peer_at, Reading, reading, read_peer}
+use Rattle.peers_table.specs.Table.{Heading, refused, end_at, last_end, check_peers}
 use Rattle.peers_entry.specs.declared.Peer.{Peer}
-use Rattle.peers_table.specs.declared.TableAnswer.{TableAnswer}
-use Rattle.peers_table.specs.declared.TableAnswer.TheVariants as B
+use Rattle.peers_entry.specs.declared.PeerRead.{PeerRead}
 use Rattle.peers_table.proofs.Tables.{end_more, held-within}
 use Rattle.peers_entry.proofs.Records.{read_fits}
 use Rattle.peers_entry.proofs.Stored.{stored_read}
 use Rattle.peers_slots.proofs.AsStored.{AsStored}
-use Rattle.peers_read.specs.Load.{filled, head_for, load_peers, loading}
+use Rattle.peers_read.specs.Load.{filled, head_for, load_peers}
 
 -- ---- the head for so many slots
 module _ (s : List ℕ) (slots : ℕ) where
@@ -49,33 +49,20 @@ module _ (s : List ℕ) (slots : ℕ) where
       case true = λ h. absurd (omega arith)
       case false = held-within s i
 
--- ---- what of a body goes into slots
-abbrev Planned : List ℕ → ℕ → Heading → Type 0
-Planned s slots h = (h ≡ head_for s slots) × (h.count ≡ (head_for s slots).count) × (h.first ≡ (head_for s slots).first)
-
+-- ---- what the slots do to a head
 module _ (s : List ℕ) (slots : ℕ) where
-  planned : {h : Heading} → h ≡ head_for s slots → Planned s slots h
-  planned e = (e, ap (λ (h : Heading). h.count) e, ap (λ (h : Heading). h.first) e)
+  pub head-refused : (n : ℕ) → refused n ≡ check_peers s → refused n ≡ head_for s slots
+  head-refused n h = let z : 0 ≤ slots = omega arith in rw (head_by_slots s slots, ← h) (simp (le-ltb slots 0 z))
 
-  head-refused : (n : ℕ) → check_peers s ≡ refused n → refused n ≡ head_for s slots
-  head-refused n h = let z : 0 ≤ slots = omega arith in rw (head_by_slots s slots, h) (simp (le-ltb slots 0 z))
+  pub head_few : (h : Heading) → h ≡ check_peers s → slots < h.count → refused 9 ≡ head_for s slots
+  head_few h e l = rw (head_by_slots s slots, ← e) (simp (lt-ltb slots h.count l))
 
-  head_few : (h : Heading) → check_peers s ≡ h → slots < h.count → refused 9 ≡ head_for s slots
-  head_few h e l = rw (head_by_slots s slots, e) (simp (lt-ltb slots h.count l))
+  pub head-whole : (h : Heading) → h ≡ check_peers s → h.count ≤ slots → h ≡ head_for s slots
+  head-whole h e l = rw (head_by_slots s slots, ← e) (simp (le-ltb slots h.count l))
 
-  head-whole : (h : Heading) → check_peers s ≡ h → h.count ≤ slots → h ≡ head_for s slots
-  head-whole h e l = rw (head_by_slots s slots, e) (simp (le-ltb slots h.count l))
-
-  module _ (r : TableAnswer) (checked : heading r ≡ check_peers s) where
-    pub plan_refused : (why : Refusal) → r ≡ B.Refused why → Planned s slots (refused (number_of why))
-    plan_refused why e = planned (head-refused (number_of why) (sym checked ∙ ap heading e))
-
-    module _ (collector name size count first end : ℕ) (e : r ≡ B.Table collector name size count first end) where
-      pub plan_few : slots < count → Planned s slots (refused 9)
-      plan_few h = planned (head_few (heading (B.Table collector name size count first end)) (sym checked ∙ ap heading e) h)
-
-      pub plan_whole : count ≤ slots → Planned s slots (heading (B.Table collector name size count first end))
-      plan_whole h = planned (head-whole (heading (B.Table collector name size count first end)) (sym checked ∙ ap heading e) h)
+-- a body that passed its check holds the peers of its head
+pub head-holds : (s : List ℕ) (h : Heading) → h ≡ check_peers s → (i : ℕ) → i < h.count → end_at s h.first (i + 1) ≤ length s
+head-holds s h e i = rw e (held-within s i)
 
 -- ---- the loop: i peers are in their slots, and the next one starts at p
 module _ (s : List ℕ) (l : List Peer) (first : ℕ) where
@@ -92,21 +79,22 @@ module _ (s : List ℕ) (l : List Peer) (first : ℕ) where
     reads = read_fits s (end_at s first i) (rw end_more inside)
         ∙ ap (λ (k : ℕ). record { number = 0; peer = peer_at s (end_at s first i); next = k }) (end_more s first i)
 
-    pub filled_turn : {t : List Peer} (r : Reading) → r ≡ read_peer s p → t ≡ filled s first l i
-        → (set t i r.peer ≡ filled s first l (i + 1)) × (r.next ≡ end_at s first (i + 1))
-    filled_turn {t} r h e =
-        let k : r ≡ record { number = 0; peer = peer_at s (end_at s first i); next = end_at s first (i + 1) } = h ∙ ap (read_peer s) at
-        ∙ reads in
-        (rw (k, e) (filled_more i), ap (λ (x : Reading). x.next) k)
+    pub filled_read : (r : Result PeerRead Refusal) → reading r ≡ read_peer s p → IsOk r
+    filled_read (Ok x) h = refl
+    filled_read (Err why) h = absurd (number-not-zero why (ap (λ (x : Reading). x.number) (h ∙ ap (read_peer s) at ∙ reads)))
+
+    pub filled_turn : {t : List Peer} {r : Result PeerRead Refusal} (x : PeerRead) → r ≡ Ok x → reading r ≡ read_peer s p
+        → t ≡ filled s first l i → (set t i x.peer ≡ filled s first l (i + 1)) × (x.next ≡ end_at s first (i + 1))
+    filled_turn {t} {r} x k h e =
+        let z : reading (Ok x) ≡ record { number = 0; peer = peer_at s (end_at s first i); next = end_at s first (i + 1) } =
+        sym (ap reading k) ∙ h ∙ ap (read_peer s) at ∙ reads in
+        (rw (ap (λ (x : Reading). x.peer) z, e) (filled_more i), ap (λ (x : Reading). x.next) z)
 
 -- ---- the answer and the slots, as one
-pub load_is : (s : List ℕ) (l : List Peer) (r : TableAnswer) {t : List Peer} {first count i : ℕ} → heading r ≡ head_for s (length l)
-    → count ≡ (head_for s (length l)).count → first ≡ (head_for s (length l)).first
-    → i ≤ count → count ≤ i → t ≡ filled s first l i → loading r t ≡ load_peers s l
+pub load_is : (s : List ℕ) (l t : List Peer) (h : Heading) → h ≡ head_for s (length l) → t ≡ filled s h.first l h.count
+    → record { head = h; slots = t } ≡ load_peers s l
 unfolding load_peers
-load_is s l r {t} {first} {count} {i} h c f u v e =
-    let j : i ≡ (head_for s (length l)).count = (let z : i ≡ count = omega arith in z) ∙ c in
-    rw (h, e, j, f)
+load_is s l t h e f = rw (f, e)
 
 -- ---- slots that were filled
 module _ (s : List ℕ) (at : ℕ) (l : List Peer) where

@@ -1,9 +1,10 @@
 -- Reading a body into slots (01, Peer table): the whole body first (7), then the slots (9); filled from the front.
-use Rattle.std.specs.Prelude.{ℕ, zero, suc, List, cond, length, set, ltb}
+use Rattle.std.specs.Prelude.{ℕ, zero, suc, List, cond, length, set, ltb, Result}
+use Rattle.answer.specs.declared.Refusal.{Refusal}
 use Rattle.peers_entry.specs.Peer.{peer_at}
 use Rattle.peers_table.specs.Table.{Heading, heading, refused, end_at, check_peers}
 use Rattle.peers_entry.specs.declared.Peer.{Peer}
-use Rattle.peers_table.specs.declared.TableAnswer.{TableAnswer}
+use Rattle.peers_table.specs.declared.TableHead.{TableHead}
 
 -- the body's head, and the slots after the call
 pub record Loading : Type 0 where
@@ -11,7 +12,7 @@ pub record Loading : Type 0 where
   pub slots : List Peer
 
 -- an answer, set out with the slots l that the call leaves
-abbrev pub loading : TableAnswer → List Peer → Loading
+abbrev pub loading : Result TableHead Refusal → List Peer → Loading
 loading r l = record { head = heading r; slots = l }
 
 -- the slots l with the first n of the peers from at on in the first n of them

@@ -1,11 +1,11 @@
 -- The body of a PEER_INDEX_TABLE (RFC 6396, 4.3.1; 01, Peer table; Body checks): Collector BGP ID 4, View Name Length 2,
 -- View Name, Peer Count 2, then the peers. Octets after the last peer are ignored.
-use Rattle.std.specs.Prelude.{ℕ, zero, suc, ◌+◌, List, cond, length, get_or, leb}
+use Rattle.std.specs.Prelude.{ℕ, zero, suc, ◌+◌, List, cond, length, get_or, leb, Result, Ok, Err}
 use Rattle.answer.specs.Refusal.{number_of}
+use Rattle.answer.specs.declared.Refusal.{Refusal}
 use Rattle.octets.specs.Octets.{be_at}
 use Rattle.peers_entry.specs.Peer.{peer_size}
-use Rattle.peers_table.specs.declared.TableAnswer.{TableAnswer}
-use Rattle.peers_table.specs.declared.TableAnswer.TheVariants.{Table, Refused}
+use Rattle.peers_table.specs.declared.TableHead.{TableHead}
 
 -- an answer in numbers: the refusal's number or 0, the collector, where the view name starts and how many octets it has,
 -- how many peers there are, where the first one starts, and where the last one ends
@@ -23,10 +23,18 @@ abbrev pub refused : ℕ → Heading
 refused n = record { number = n; collector = 0; name = 0; length = 0; count = 0; first = 0; end = 0 }
 
 -- what each answer of the check says
-abbrev pub heading : TableAnswer → Heading
-heading (Table collector name length count first end) =
-    record { number = 0; collector = collector; name = name; length = length; count = count; first = first; end = end }
-heading (Refused r) = refused (number_of r)
+abbrev pub heading : Result TableHead Refusal → Heading
+heading (Ok t) =
+    record {
+      number = 0;
+      collector = t.collector;
+      name = t.name;
+      length = t.length;
+      count = t.count;
+      first = t.first;
+      end = t.end;
+    }
+heading (Err why) = refused (number_of why)
 
 -- where the first n of the peers from at on end
 unfoldable pub end_at : List ℕ → ℕ → ℕ → ℕ

@@ -3,21 +3,17 @@
 
 mod table;
 
-use answer::Refusal;
 pub use table::check_peers;
 
-// What the check of a body answers.
+// The head of a body that holds every declared peer.
 #[derive(Clone, Copy)]
-pub enum TableAnswer {
-    Table {
-        collector: u32,
-        // Where the view name starts in the body, and how many octets it has.
-        name: usize,
-        length: usize,
-        count: u16,
-        // Where the first peer starts and where the last one ends.
-        first: usize,
-        end: usize,
-    },
-    Refused(Refusal),
+pub struct TableHead {
+    pub collector: u32,
+    // Where the view name starts in the body, and how many octets it has.
+    pub name: usize,
+    pub length: usize,
+    pub count: u16,
+    // Where the first peer starts and where the last one ends.
+    pub first: usize,
+    pub end: usize,
 }

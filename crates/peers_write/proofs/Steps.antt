@@ -1,36 +1,25 @@
--- What the helpers decide, case by case.
-use Prim.Native.Nat.{ℕ, ◌+◌, ◌-◌, ◌/◌, ◌%◌, ◌<◌, ◌≤◌}
-use mathlib.Core.Path.{◌≡◌, refl, sym, ◌∙◌, ap}
+-- What the helpers give, and what the call answers, case by case.
+use Prim.Native.Nat.{ℕ, zero, suc, ◌+◌, ◌/◌, ◌%◌, ◌<◌, ◌≤◌}
+use mathlib.Core.Path.{◌≡◌, refl, ◌∙◌, ap}
 use mathlib.Core.List.{List, [], ◌∷◌, ◌++◌}
 use mathlib.Core.Bool.{Bool, true, false}
 use native.Mathlib.Nat.{zero-add}
 use native.Mathlib.Omega.{arith}
 use borrow.Author.Tests.{lt-ltb, le-ltb, lt-leb, eqb-true, eqb-false}
 use lib.Dec.{eqb}
-use lib.ListN.{length, get_or, length-append}
-use Rattle.answer.specs.Refusal.{number_of}
+use lib.ListN.{length, get_or, take, length-append}
+use Rattle.std.proofs.lemmas.List.{get_or-take, length-take-le}
 use Rattle.answer.specs.Writing.{refuse, at_front}
-use Rattle.answer.specs.declared.Refusal.{Refusal}
-use Rattle.answer.specs.declared.Refusal.TheVariants.{Beyond, TooLarge, NoRoom}
-use Rattle.answer.specs.declared.Written.TheVariants as W
 use Rattle.octets.specs.Octets.{bytes_of, patch}
 use Rattle.octets.proofs.Numbers.{length_bytes}
 use Rattle.octets.proofs.Stores.{stores}
 use Rattle.octets_address.specs.Address.{size_of}
-use Rattle.peers_entry.specs.Peer.{wide, address_size, as_size, peer_size, unfit}
+use Rattle.peers_entry.specs.Peer.{nobody, wide, address_size, as_size, peer_size}
 use Rattle.peers_entry.specs.declared.Peer.{Peer}
-use Rattle.peers_slots.specs.Used.{wrong_count, in_use}
-use Rattle.peers_slots.proofs.Counts.{all_used, is_right}
+use Rattle.peers_slots.specs.Used.{wrong_count}
 use Rattle.peers_write.specs.Write.{head_octets, peers_octets, any_unfit, table_octets, write_peers}
-use Rattle.peers_write.specs.Steps.{sizes, leaves, less_peer, Starts}
-use Rattle.peers_write.specs.declared.Left.{Left}
-use Rattle.peers_write.specs.declared.Survey.{Survey}
-use Rattle.peers_write.specs.declared.Start.{Start}
+use Rattle.peers_write.specs.Steps.{sizes}
 use Rattle.peers_write.proofs.Writes.{length_table, whole}
-
--- ---- a survey and what it takes
-pub survey_is : {m n : ℕ} (left : Left) → m ≡ n → ◌≡◌ {A = Survey} (record { left = left; count = m }) (record { left = left; count = n })
-survey_is left e = rw e
 
 -- the sizes by the low two bits of the type
 abbrev sizes-row : List ℕ
@@ -63,88 +52,75 @@ size-row kind = by_tests (eqb (kind % 2) 1) (eqb (kind / 2 % 2) 1) refl refl
         let e : kind % 4 ≡ 0 = omega arith in
         rw (e, p, q)
 
-module _ (left : Left) (p : Peer) {octets : ℕ} (less : octets ≡ left.octets - peer_size p.kind) where
-  pub less_unfit : left.unfit ≡ true → record { octets = octets; unfit = true } ≡ less_peer left p
-  unfolding less_peer
-  less_unfit u = rw (less, u)
+-- ---- the slots in use alone
+module _ (l : List Peer) (count : ℕ) where
+  taken : (i : ℕ) → i < count → get_or (take count l) i nobody ≡ get_or l i nobody
+  taken i h = get_or-take count l i nobody h
 
-  pub less_fit : {t : Bool} → left.unfit ≡ false → t ≡ unfit p → record { octets = octets; unfit = t } ≡ less_peer left p
-  unfolding less_peer
-  less_fit u t = rw (less, u, t)
+  octets-taken : (n : ℕ) → n ≤ count → peers_octets (take count l) n ≡ peers_octets l n
+  unfolding peers_octets
+  octets-taken zero h = refl
+  octets-taken (suc n) h = rw (octets-taken n (omega arith), taken n (omega arith))
 
--- ---- the start of a body
-module _ (s : List ℕ) (collector : ℕ) (view : List ℕ) (slots count : ℕ) (left : Left) where
-  -- what leaves so much of the room
-  abbrev Leaving : List Peer → Type 0
-  Leaving l = left ≡ leaves l (in_use slots count) (length s)
+  sizes-taken : (n : ℕ) → n ≤ count → sizes (take count l) n ≡ sizes l n
+  unfolding sizes
+  sizes-taken zero h = refl
+  sizes-taken (suc n) h = rw (sizes-taken n (omega arith), taken n (omega arith))
 
-  -- a refusal that `write_peers` gives too
-  stopped : (g : Start) (why : Refusal) → g ≡ record { answer = W.Refused why; count = 0; at = 0 }
-      → ((l : List Peer) → length l ≡ slots → Leaving l → refuse (number_of why) s ≡ write_peers s collector view l count)
-      → Starts s collector view slots count left g s
-  unfolding sizes peers_octets patch
-  stopped g why e h l k rest = rw e (record { held = omega arith; room = omega arith; answers = h l k rest })
+  unfit-taken : (n : ℕ) → n ≤ count → any_unfit (take count l) n ≡ any_unfit l n
+  unfolding any_unfit
+  unfit-taken zero h = refl
+  unfit-taken (suc n) h = rw (unfit-taken n (omega arith), taken n (omega arith))
 
-  pub start_wrong : (g : Start) → g ≡ record { answer = W.Refused Beyond; count = 0; at = 0 } → wrong_count slots count ≡ true
-      → Starts s collector view slots count left g s
+  module _ (inside : count ≤ length l) where
+    pub taken-length : length (take count l) ≡ count
+    taken-length = length-take-le count l inside
+
+    pub taken_unfit : any_unfit (take count l) (length (take count l)) ≡ any_unfit l count
+    taken_unfit = ap (any_unfit (take count l)) taken-length ∙ unfit-taken count (omega arith)
+
+    pub taken_sizes : sizes (take count l) (length (take count l)) ≡ sizes l count
+    taken_sizes = ap (sizes (take count l)) taken-length ∙ sizes-taken count (omega arith)
+
+    pub taken_octets : peers_octets (take count l) (length (take count l)) ≡ peers_octets l count
+    taken_octets = ap (peers_octets (take count l)) taken-length ∙ octets-taken count (omega arith)
+
+-- ---- the answer
+module _ (s : List ℕ) (collector : ℕ) (view : List ℕ) (l : List Peer) (count : ℕ) where
+  pub write_wrong : wrong_count (length l) count ≡ true → refuse 8 s ≡ write_peers s collector view l count
   unfolding write_peers
-  start_wrong g e w = stopped g Beyond e (λ l k rest. rw k (simp w))
+  write_wrong w = simp w
 
-  module _ (w : wrong_count slots count ≡ false) where
-    pub start-name : (g : Start) → g ≡ record { answer = W.Refused TooLarge; count = 0; at = 0 } → 65535 < length view
-        → Starts s collector view slots count left g s
+  module _ (w : wrong_count (length l) count ≡ false) where
+    pub write_name : 65535 < length view → refuse 10 s ≡ write_peers s collector view l count
     unfolding write_peers
-    start-name g e h = stopped g TooLarge e (λ l k rest. rw k (simp (w, lt-ltb _ _ h)))
-
-    -- all peers are measured
-    measured : (l : List Peer) → Leaving l → left ≡ leaves l count (length s)
-    measured l rest = rest ∙ ap (λ (n : ℕ). leaves l n (length s)) (sym (all_used slots count w))
-
-    rest-octets : (l : List Peer) → Leaving l → left.octets ≡ length s - sizes l count
-    unfolding leaves
-    rest-octets l rest = ap (λ (x : Left). x.octets) (measured l rest)
-
-    rest-unfit : (l : List Peer) → Leaving l → any_unfit l count ≡ left.unfit
-    unfolding leaves
-    rest-unfit l rest = ap (λ (x : Left). x.unfit) (sym (measured l rest))
+    write_name h = simp (w, lt-ltb _ _ h)
 
     module _ (n : length view ≤ 65535) where
-      pub start-unfit : (g : Start) → g ≡ record { answer = W.Refused TooLarge; count = 0; at = 0 } → left.unfit ≡ true
-          → Starts s collector view slots count left g s
+      pub write_unfit : any_unfit l count ≡ true → refuse 10 s ≡ write_peers s collector view l count
       unfolding write_peers
-      start-unfit g e u = stopped g TooLarge e (λ l k rest. rw k (simp (w, le-ltb _ _ n, rest-unfit l rest ∙ u)))
+      write_unfit u = simp (w, le-ltb _ _ n, u)
 
-      module _ (u : left.unfit ≡ false) where
+      module _ (u : any_unfit l count ≡ false) where
         -- all fits its fields, so the room decides
-        fits : (l : List Peer) → length l ≡ slots → Leaving l
-            → at_front s (table_octets collector view l count) ≡ write_peers s collector view l count
+        fits : at_front s (table_octets collector view l count) ≡ write_peers s collector view l count
         unfolding write_peers
-        fits l k rest = rw k (simp (w, le-ltb _ _ n, rest-unfit l rest ∙ u))
+        fits = simp (w, le-ltb _ _ n, u)
 
-        pub start_small : (g : Start) → g ≡ record { answer = W.Refused NoRoom; count = 0; at = 0 } → left.octets < 8 + length view
-            → Starts s collector view slots count left g s
+        pub write_small : length s < 8 + length view + sizes l count → refuse 9 s ≡ write_peers s collector view l count
         unfolding at_front
-        start_small g e h = stopped g NoRoom e (λ l k rest.
-            let m : length s < length (table_octets collector view l count) =
-            omega (arith, length_table s collector view l count, rest-octets l rest) in
-            simp (lt-leb _ _ m) at (fits l k rest))
+        write_small h =
+            let m : length s < length (table_octets collector view l count) = omega (arith, length_table s collector view l count) in
+            simp (lt-leb _ _ m) at fits
 
-        pub start_never : (g : Start) → g ≡ record { answer = W.Refused NoRoom; count = 0; at = 0 } → length s < left.octets
-            → Starts s collector view slots count left g s
-        start_never g e h = stopped g NoRoom e (λ l k rest. absurd (omega (arith, rest-octets l rest)))
-
-        pub start-whole : {t : List ℕ} → 8 + length view ≤ left.octets → t ≡ patch s 0 (head_octets collector view count)
-            → Starts s collector view slots count left
-            (record { answer = W.Octets (length s - left.octets + (8 + length view)); count = count; at = 8 + length view }) t
-        start-whole h e l k rest =
+        pub write_whole : {t u : List ℕ} {n : ℕ} → 8 + length view + sizes l count ≤ length s
+            → t ≡ patch s 0 (head_octets collector view count) → u ≡ patch t (8 + length view) (peers_octets l count)
+            → n ≡ 8 + length view + sizes l count
+            → record { number = 0; octets = n; output = u } ≡ write_peers s collector view l count
+        write_whole {t} {u} {n} h e f k =
             let table : length (table_octets collector view l count) ≡ 8 + length view + sizes l count =
             length_table s collector view l count in
-            let octets : left.octets ≡ length s - sizes l count = rest-octets l rest in
-            record {
-              held = omega (arith, is_right slots count w);
-              room = omega arith;
-              answers = whole s collector view l count (omega arith) (omega arith) e ∙ fits l k rest;
-            }
+            rw f (whole s collector view l count (omega arith) (omega arith) e ∙ fits)
 
 -- the head's fields one after the other
 pub head_run : (s : List ℕ) (collector : ℕ) (view : List ℕ) (count : ℕ) {t u v w : List ℕ} → t ≡ patch s 0 (bytes_of 4 collector)

@@ -1,5 +1,5 @@
 -- The slots written as a body: what the peers leave of the room, one turn, and the end.
-use Prim.Native.Nat.{ℕ, zero, suc, ◌+◌, ◌-◌, ◌<◌, ◌≤◌}
+use Prim.Native.Nat.{ℕ, zero, suc, ◌+◌, ◌-◌, ◌*◌, ◌≤◌}
 use mathlib.Core.Path.{◌≡◌, refl, ◌∙◌, ap}
 use mathlib.Core.List.{List, ◌++◌}
 use mathlib.Core.Bool.{false, ◌||◌}
@@ -8,43 +8,45 @@ use native.Mathlib.Numerals.{add-one}
 use native.Mathlib.Omega.{arith}
 use borrow.Author.Tests.{le-leb}
 use lib.ListN.{length, get_or, length-append}
-use Rattle.answer.specs.Writing.{wrote, at_front}
+use Rattle.answer.specs.Writing.{at_front}
 use Rattle.octets.specs.Octets.{bytes_of, patch}
 use Rattle.octets.proofs.Numbers.{length_bytes}
 use Rattle.octets.proofs.Stores.{stores, patch_front}
 use Rattle.peers_entry.specs.Peer.{nobody, peer_size, unfit, peer_octets, put_peer}
 use Rattle.peers_entry.specs.declared.Peer.{Peer}
 use Rattle.peers_entry.proofs.Records.{length-peer}
-use Rattle.peers_write.specs.Write.{head_octets, peers_octets, any_unfit, table_octets, write_peers}
-use Rattle.peers_write.specs.Steps.{sizes, leaves, less_peer, Started}
-use Rattle.peers_write.specs.declared.Left.{Left}
-use Rattle.peers_write.specs.declared.Start.{Start}
+use Rattle.peers_entry.proofs.Sizes.{size_is, address_le, as_le}
+use Rattle.peers_write.specs.Write.{head_octets, peers_octets, any_unfit, table_octets}
+use Rattle.peers_write.specs.Steps.{sizes}
 
--- ---- what the peers in the first n slots leave of the room
-module _ (l : List Peer) (room : ℕ) where
-  pub leaves_none : record { octets = room; unfit = false } ≡ leaves l 0 room
-  unfolding leaves sizes any_unfit
-  leaves_none = let e : room - 0 ≡ room = omega arith in rw e
+pub peer_le : (kind : ℕ) → peer_size kind ≤ 25
+peer_le kind = omega (arith, size_is kind, address_le kind, as_le kind)
 
-  sizes_more : (i : ℕ) → sizes l i + peer_size (get_or l i nobody).kind ≡ sizes l (i + 1)
+-- ---- what the peers in the first n slots take, and whether one does not fit
+module _ (l : List Peer) where
+  pub sizes_none : 0 ≡ sizes l 0
+  unfolding sizes
+  sizes_none = refl
+
+  pub sizes_more : (i : ℕ) → sizes l i + peer_size (get_or l i nobody).kind ≡ sizes l (i + 1)
   unfolding sizes
   sizes_more i = rw add-one
 
-  unfit_more : (i : ℕ) → any_unfit l i || unfit (get_or l i nobody) ≡ any_unfit l (i + 1)
+  pub sizes-least : (n : ℕ) → sizes l n ≤ n * 25
+  unfolding sizes
+  sizes-least zero = omega arith
+  sizes-least (suc n) =
+      let h : sizes l n ≤ n * 25 = sizes-least n in
+      let k : peer_size (get_or l n nobody).kind ≤ 25 = peer_le (get_or l n nobody).kind in
+      omega arith
+
+  pub unfit_none : false ≡ any_unfit l 0
+  unfolding any_unfit
+  unfit_none = refl
+
+  pub unfit_more : (i : ℕ) → any_unfit l i || unfit (get_or l i nobody) ≡ any_unfit l (i + 1)
   unfolding any_unfit
   unfit_more i = rw add-one
-
-  less_is : (i : ℕ) → less_peer (leaves l i room) (get_or l i nobody) ≡ leaves l (i + 1) room
-  unfolding leaves less_peer
-  less_is i =
-      let e : room - sizes l i - peer_size (get_or l i nobody).kind ≡ room - sizes l (i + 1) = omega (arith, sizes_more i) in
-      rw (e, unfit_more i)
-
-  pub leaves_turn : (i : ℕ) {f r : Left} → f ≡ leaves l i room → r ≡ less_peer f (get_or l i nobody) → r ≡ leaves l (i + 1) room
-  leaves_turn i e h = h ∙ rw e (less_is i)
-
-  pub leaves-done : {m i : ℕ} (n : ℕ) {f : Left} → m ≡ n → i ≤ m → m ≤ i → f ≡ leaves l i room → f ≡ leaves l n room
-  leaves-done {m} {i} n e u v h = let j : i ≡ n = (let z : i ≡ m = omega arith in z ∙ e) in h ∙ ap (λ (k : ℕ). leaves l k room) j
 
 -- ---- the octets of the peers
 module _ (l : List Peer) where
@@ -61,7 +63,7 @@ module _ (l : List Peer) where
   sizes_on n zero = rw zero-add (omega arith)
   sizes_on n (suc k) = let h : sizes l n ≤ sizes l (k + n) = sizes_on n k in rw suc-add (omega arith)
 
-  sizes-le : (n m : ℕ) → n ≤ m → sizes l n ≤ sizes l m
+  pub sizes-le : (n m : ℕ) → n ≤ m → sizes l n ≤ sizes l m
   sizes-le n m h = let e : m - n + n ≡ m = omega arith in rw e at (sizes_on n (m - n))
 
   octets_more : (i : ℕ) → peers_octets l i ++ peer_octets (get_or l i nobody) ≡ peers_octets l (i + 1)
@@ -82,7 +84,7 @@ module _ (l : List Peer) where
       → p ≡ at + sizes l i → (u, r) ≡ put_peer s p (get_or l i nobody)
       → (u ≡ patch t at (peers_octets l (i + 1))) × (r ≡ at + sizes l (i + 1))
   written_turn t at i {p} {r} {s} {u} h e k j =
-      let m : sizes l i + peer_size (get_or l i nobody).kind ≡ sizes l (i + 1) = sizes_more l 0 i in
+      let m : sizes l i + peer_size (get_or l i nobody).kind ≡ sizes l (i + 1) = sizes_more l i in
       let f : p + peer_size (get_or l i nobody).kind ≤ length s = omega arith in
       let both : ◌≡◌ {A = List ℕ × ℕ} (u, r) (patch s p (peer_octets (get_or l i nobody)), p + peer_size (get_or l i nobody).kind) = j
       ∙ put_fits s p (get_or l i nobody) f in
@@ -129,16 +131,3 @@ module _ (s : List ℕ) (collector : ℕ) (view : List ℕ) (l : List Peer) (cou
       let e : patch t (8 + length view) (peers_octets l count) ≡ patch s 0 Table =
       stores s 0 (8 + length view) head (peers_octets l count) (length-head collector view count) ht (rw zero-add) in
       rw (hn, e, patch_front s Table r) (simp (le-leb (length Table) (length s) r))
-
-  -- ---- the loop after the start g, which left the output t
-  module _ (g : Start) (t : List ℕ) (started : Started s collector view l count g t) where
-    pub write_room : (i : ℕ) → i < g.count → g.at + sizes l (i + 1) ≤ length s
-    write_room i h =
-        let m : sizes l (i + 1) ≤ sizes l g.count = sizes-le l (i + 1) g.count (omega arith) in
-        omega (arith, started.room)
-
-    pub write_is : {i : ℕ} {u : List ℕ} → i ≤ g.count → g.count ≤ i → u ≡ patch t g.at (peers_octets l i)
-        → wrote g.answer u ≡ write_peers s collector view l count
-    write_is {i} {u} x y h =
-        let j : i ≡ g.count = omega arith in
-        ap (wrote g.answer) (h ∙ ap (λ (n : ℕ). patch t g.at (peers_octets l n)) j) ∙ started.answers

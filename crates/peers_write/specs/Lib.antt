@@ -1,3 +1,3 @@
--- Write: the slots written as a body. Steps: what the call's own helpers decide.
+-- Write: the slots written as a body. Steps: what the peers take.
 pub mod Write
 pub mod Steps

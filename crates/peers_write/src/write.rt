@@ -1,27 +1,23 @@
 // The slots written as a body.
-ghost use Rattle.std.specs.Prelude.{◌≡◌, length};
+ghost use Rattle.std.specs.Prelude.{◌≡◌, ◌+◌, ◌≤◌, length};
 ghost use Rattle.answer.specs.Writing.{wrote};
-ghost use Rattle.peers_slots.specs.Used.{in_use};
-ghost use Rattle.peers_write.specs.Write.{write_peers};
-ghost use Rattle.peers_write.specs.Steps.{leaves};
+ghost use Rattle.octets.specs.Octets.{patch};
+ghost use Rattle.peers_write.specs.Write.{head_octets, write_peers};
 
-use crate::Left;
-use crate::step::{begin_survey, less_peer, write_head};
-use answer::Written;
+use crate::measure::measure;
+use answer::Refusal;
 use peers_entry::Peer;
 
-// What the peers in use leave of a room.
-fn measure(slots: &[Peer], count: usize, room: usize) -> Left
-    ensures { result ≡ leaves slots.now (in_use (length slots.now) count) room }
+// The fields before the peers.
+fn put_head(out: &mut [u8], collector: u32, view: &[u8], count: u16)
+    requires { (length view.now ≤ 65535) × (8 + length view.now ≤ length out.old) }
+    ensures { out.new ≡ patch out.old 0 (head_octets collector view.now count) }
 {
-    let survey = begin_survey(slots.len(), count, room);
-    let mut left = survey.left;
-    let mut i: usize = 0;
-    while i < survey.count {
-        left = less_peer(left, slots[i]);
-        i += 1;
-    }
-    left
+    let name = view.len();
+    octets::put_be32(out, 0, collector);
+    octets::put_be16(out, 4, name as u16);
+    octets_copies::put_octets(out, 6, view);
+    octets::put_be16(out, 6 + name, count);
 }
 
 // The body at the front of the output, or a refusal that leaves the output as it was.
@@ -31,17 +27,26 @@ pub fn write_peers(
     view: &[u8],
     slots: &[Peer],
     count: usize,
-) -> Written
+) -> Result<usize, Refusal>
     ensures answer { wrote result out.new
         ≡ write_peers out.old collector view.now slots.now count }
 {
-    let left = measure(slots, count, out.len());
-    let start = write_head(out, collector, view, slots.len(), count, left);
-    let mut at = start.at;
-    let mut i: usize = 0;
-    while i < start.count {
-        at = peers_entry::put_peer(out, at, slots[i]);
-        i += 1;
+    let name = view.len();
+    if peers_slots::wrong_count(slots.len(), count) {
+        return Err(Refusal::Beyond);
     }
-    start.answer
+    if 65535 < name {
+        return Err(Refusal::TooLarge);
+    }
+    let peers = &slots[..count];
+    let octets = measure(peers)?;
+    if out.len() < 8 + name + octets {
+        return Err(Refusal::NoRoom);
+    }
+    put_head(out, collector, view, count as u16);
+    let mut at = 8 + name;
+    for p in peers {
+        at = peers_entry::put_peer(out, at, *p);
+    }
+    Ok(at)
 }

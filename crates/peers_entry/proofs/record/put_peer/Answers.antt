@@ -7,12 +7,17 @@ use Rattle.peers_entry.specs.Peer.{address_size}
 use Rattle.peers_entry.proofs.Sizes.{address_le, size_is}
 use Rattle.peers_entry.proofs.Records.{put_small, put_late, put_whole}
 use Rattle.peers_entry.proofs.record.put_peer.Goals as goal
+use Rattle.peers_entry.proofs.record.put_peer.Goals.{then-n-size-via-then-n-size, then-n-size-via-else-n-size+then-n-size-2}
 
 pub returns-then-n-size : goal.returns-then-n-size
-returns-then-n-size c = record { answer = put_small _ _ _ c.peer_size-size.ensures.answer c.if-n-size.true }
-
-pub returns-then-n-size-2 : goal.returns-then-n-size-2
-returns-then-n-size-2 c = record { answer = put_late _ _ _ c.peer_size-size.ensures.answer c.if-n-size.false c.if-n-size-2.true }
+returns-then-n-size c = record {
+  answer =
+      elim c.then-n-size.branch [
+        | then-n-size-via-then-n-size w ↦ put_small _ _ _ c.peer_size-size.ensures.answer w.if-n-size.true
+        | then-n-size-via-else-n-size+then-n-size-2 w ↦
+            put_late _ _ _ c.peer_size-size.ensures.answer w.if-n-size.false w.if-n-size-2.true
+      ];
+}
 
 pub overflow_add-front-2 : goal.overflow_add-front-2
 overflow_add-front-2 c =
@@ -33,5 +38,5 @@ returns c = record {
   answer =
       put_whole _ _ _ c.peer_size-size.ensures.answer c.if-n-size.false c.if-n-size-2.false
       c.address_size-length.ensures c.put_octet.ensures c.store32.ensures
-      c.put_address.ensures.answer c.put_as.ensures;
+      (rw c.long.ensures at c.put_address.ensures.answer) c.put_as.ensures;
 }

@@ -1,4 +1,3 @@
-use mathlib.Core.Path.{◌∙◌}
 use native.Mathlib.Omega.{arith}
 use Rattle.peers_entry.specs.Peer.{address_size}
 use Rattle.peers_entry.proofs.Sizes.{address_le, size_is}
@@ -6,13 +5,12 @@ use Rattle.peers_entry.proofs.Records.{read_beyond, read_short, read_whole}
 use Rattle.peers_entry.proofs.record.read_peer.Goals as goal
 
 pub returns-then-n-at : goal.returns-then-n-at
-returns-then-n-at c = record { answer = c.refuse.ensures ∙ read_beyond _ _ c.if-n-at.true }
+returns-then-n-at c = record { answer = read_beyond _ _ c.if-n-at.true }
 
 pub returns-then-n-at-2 : goal.returns-then-n-at-2
 returns-then-n-at-2 c = record {
   answer =
-      c.refuse-then-n-at-2.ensures
-      ∙ read_short _ _ c.if-n-at.false c.octet-kind.ensures
+      read_short _ _ c.if-n-at.false c.octet-kind.ensures
       c.peer_size-size.ensures.answer c.if-n-at-2.true;
 }
 
@@ -32,6 +30,6 @@ unfolding address_size
 returns c = record {
   answer =
       read_whole _ _ c.if-n-at.false c.octet-kind.ensures c.peer_size-size.ensures.answer c.if-n-at-2.false
-      c.address_size-length.ensures c.read_address-addr.ensures.answer
+      c.address_size.ensures (rw c.long.ensures at c.read_address-addr.ensures.answer)
       c.be32.ensures c.read_as.ensures;
 }

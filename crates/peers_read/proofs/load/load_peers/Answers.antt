@@ -1,30 +1,42 @@
-use Rattle.std.proofs.Common.{ℕ, ◌+◌, ◌<◌, ◌≤◌, length, subst, sym, arith}
-use Rattle.peers_entry.specs.Peer.{reading}
-use Rattle.peers_table.specs.Table.{end_at}
+use Rattle.std.proofs.Common.{◌≡◌, arith, Ok}
+use Rattle.std.proofs.lemmas.Result.{err_from_is_err_and}
+use Rattle.peers_table.specs.Table.{heading}
 use Rattle.peers_table.proofs.Tables.{end_none}
-use Rattle.peers_read.proofs.Loads.{head-le, head-within, filled_none, filled_turn, load_is}
+use Rattle.peers_read.proofs.Loads.{head-refused, head_few, head-whole, head-holds, filled_none, filled_read, filled_turn, load_is}
 use Rattle.peers_read.proofs.load.load_peers.Goals as goal
 
-pub loop-i-init : goal.loop-i-init
-loop-i-init c = (omega arith, filled_none c.args.body.now _ c.plan_load-plan.result.first, end_none c.args.body.now _)
+pub returns-in_err-head : goal.returns-in_err-head
+returns-in_err-head c =
+    let p = err_from_is_err_and c.from_residual.result c.from_residual.ensures.1 in
+    rw (p.1, p.2) (record {
+      answer = load_is _ _ _ _ (head-refused _ _ _ c.in_err-head.ensures.answer) (filled_none _ _ _);
+    })
 
-pub bounds-slots-i : goal.bounds-slots-i
-bounds-slots-i c = omega (arith, head-le c.args.body.now (length c.args.slots.now))
+pub returns-then-slots-count : goal.returns-then-slots-count
+returns-then-slots-count c = record {
+  answer =
+      load_is _ _ _ _ (head_few _ _ (heading (Ok c.in_ok-head.head)) c.in_ok-head.ensures.answer c.if-slots-count.true)
+      (filled_none _ _ _);
+}
+
+pub loop-i-init : goal.loop-i-init
+loop-i-init c = (filled_none _ _ _, end_none _ _)
+
+pub unwrap-got-requires : goal.unwrap-got-requires
+unwrap-got-requires c =
+    filled_read _ c.args.slots.now _ _ c.loop-i.invariant.1
+    (head-holds _ (heading (Ok c.in_ok-head.head)) c.in_ok-head.ensures.answer _ c.loop-i-test.true) _ c.read_peer.ensures.answer
 
 pub loop-i-preserved : goal.loop-i-preserved
 loop-i-preserved c =
-    let s = c.args.body.now in
-    let n = length c.args.slots.now in
-    let plan = c.plan_load-plan.ensures in
-    let less = subst (λ (k : ℕ). c.loop-i.i < k) plan.1 c.loop-i-test.true in
-    let inside = subst (λ (k : ℕ). end_at s k (c.loop-i.i + 1) ≤ length s) (sym plan.2) (head-within s n c.loop-i.i less) in
-    let got = c.read_peer-got in
-    let turn = filled_turn s c.args.slots.now _ c.loop-i.i c.loop-i.invariant.2 inside (reading got.result) got.ensures.answer
-    c.loop-i.invariant.1 in
-    (omega arith, turn.0, turn.1)
+    filled_turn _ _ _ _ c.loop-i.invariant.1
+    (head-holds _ (heading (Ok c.in_ok-head.head)) c.in_ok-head.ensures.answer _ c.loop-i-test.true) _ c.unwrap-got.ensures
+    c.read_peer.ensures.answer c.loop-i.invariant.0
 
 pub returns : goal.returns
 returns c = record {
-  answer = load_is _ _ _ c.plan_load-plan.ensures.0 c.plan_load-plan.ensures.1 c.plan_load-plan.ensures.2 c.loop-i.invariant.0
-      c.loop-i-test.false c.loop-i.invariant.1;
+  answer =
+      let i : c.loop-i.i ≡ c.in_ok-head.head.count = omega arith in
+      load_is _ _ _ (heading (Ok c.in_ok-head.head)) (head-whole _ _ (heading (Ok c.in_ok-head.head)) c.in_ok-head.ensures.answer
+      c.if-slots-count.false) (rw i at c.loop-i.invariant.0);
 }

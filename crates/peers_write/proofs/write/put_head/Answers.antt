@@ -1,5 +1,5 @@
 use Rattle.peers_write.proofs.Steps.{head_run}
-use Rattle.peers_write.proofs.step.put_head.Goals as goal
+use Rattle.peers_write.proofs.write.put_head.Goals as goal
 
 pub returns : goal.returns
 returns c =
