@@ -1,38 +1,16 @@
--- The check of a body in each of its cases.
-use Prim.Native.Nat.{ℕ, ◌+◌, ◌-◌, ◌*◌, ◌<◌, ◌≤◌}
+-- What a body has that passes the check, and which bodies pass.
+use Prim.Native.Nat.{ℕ, ◌+◌, ◌*◌, ◌≤◌}
 use mathlib.Core.Path.{◌≡◌, refl, sym, ◌∙◌}
-use mathlib.Core.Bool.{Bool, true, false, not, true≢false}
+use mathlib.Core.Bool.{Bool, true, false, true≢false}
 use mathlib.Core.List.{List}
 use native.Mathlib.Omega.{arith}
 use lib.ListN.{length, get_or}
 use lib.Dec.{eqb, leb}
-use borrow.Author.Tests.{eq-eqb, ne_eqb, eqb-true, eqb-false, le-leb, leb-true, not-true, not-false}
-use Rattle.octets.specs.Octets.{be_at, part}
-use Rattle.octets.proofs.Parts.{be_front}
+use borrow.Author.Tests.{eq-eqb, ne_eqb, eqb-true, eqb-false, le-leb, leb-true}
+use Rattle.octets.specs.Octets.{be_at}
 use Rattle.octets_address.specs.Address.{address_size}
 use Rattle.dump_layout.specs.Layout.{attributes_at}
 use Rattle.dump_layout.specs.Check.{filled, check_dump}
-
-module _ (x : ℕ) (s : List ℕ) where
-  pub filled_short : length s < attributes_at x → false ≡ filled x s
-  unfolding filled
-  filled_short h = simp (ne_eqb (attributes_at x + be_at s (12 + 2 * x) 2) (length s) (λ e. omega arith))
-
-  module _ (h : attributes_at x ≤ length s) {v : ℕ} (e : v ≡ be_at (part s (12 + 2 * x) (attributes_at x - (12 + 2 * x))) 0 2) where
-    there : v ≡ be_at s (12 + 2 * x) 2
-    there = e ∙ be_front s (12 + 2 * x) (attributes_at x) 2 (omega arith)
-
-    pub filled_other : (v ≡ length s - attributes_at x → ⊥) → false ≡ filled x s
-    unfolding filled
-    filled_other z =
-        let q : v ≡ be_at s (12 + 2 * x) 2 = there in
-        simp (ne_eqb (attributes_at x + be_at s (12 + 2 * x) 2) (length s) (λ y. z (omega arith)))
-
-    pub filled-bits : v ≡ length s - attributes_at x → {b : ℕ} → b ≡ get_or s (4 + x) 0 → leb b (8 * x) ≡ filled x s
-    unfolding filled
-    filled-bits z y =
-        let q : v ≡ be_at s (12 + 2 * x) 2 = there in
-        rw y (simp (eq-eqb (attributes_at x + be_at s (12 + 2 * x) 2) (length s) (omega arith)))
 
 -- what a body that is filled has
 pub record Filled (x : ℕ) (s : List ℕ) : Type 0 where
@@ -52,20 +30,6 @@ filled-has x s e = by_length (eqb (attributes_at x + be_at s (12 + 2 * x) 2) (le
 pub filled_so : (x : ℕ) (s : List ℕ) → Filled x s → filled x s ≡ true
 unfolding filled
 filled_so x s f = simp (eq-eqb _ _ f.whole, le-leb _ _ f.bits)
-
-module _ (s : List ℕ) (u : ℕ) {x : ℕ} (sized : x ≡ address_size u) where
-  pub check_other : x ≡ 0 → 6 ≡ check_dump s u
-  unfolding check_dump
-  check_other z = rw (← sized) (simp (eq-eqb x 0 z))
-
-  module _ (z : x ≡ 0 → ⊥) {f : Bool} (e : f ≡ filled x s) where
-    pub check_unmet : not f ≡ true → 7 ≡ check_dump s u
-    unfolding check_dump
-    check_unmet n = rw (← sized, ne_eqb x 0 z, ← e, not-true f n)
-
-    pub check-met : not f ≡ false → 0 ≡ check_dump s u
-    unfolding check_dump
-    check-met n = rw (← sized, ne_eqb x 0 z, ← e, not-false f n)
 
 -- a body that passes is of a family and filled, and one that is so passes
 module _ (s : List ℕ) (u : ℕ) where

@@ -3,23 +3,24 @@ ghost use Rattle.std.specs.Prelude.{◌≡◌, ◌≤◌};
 ghost use Rattle.answer.specs.Refusal.{outcome_number};
 ghost use Rattle.dump_layout.specs.Check.{filled, check_dump};
 
-use answer::{Outcome, Refusal};
+use answer::Refusal;
 
 // Whether a body is that of a TABLE_DUMP record.
-pub fn check_dump(body: &[u8], subtype: u16) -> Outcome
+#[tactic(auto, using(octets_address::proofs::Addresses::found), unfolding(crate::specs::Check::check_dump))]
+pub fn check_dump(body: &[u8], subtype: u16) -> Result<(), Refusal>
     ensures answer { outcome_number result ≡ check_dump body.now subtype }
 {
-    let x = octets_address::address_size(subtype);
-    if x == 0 {
-        return Outcome::Refused(Refusal::OtherSubtype);
-    }
+    let Some(x) = octets_address::address_size(subtype) else {
+        return Err(Refusal::OtherSubtype);
+    };
     if !is_filled(body, x) {
-        return Outcome::Refused(Refusal::BodyNotMet);
+        return Err(Refusal::BodyNotMet);
     }
-    Outcome::Accepted
+    Ok(())
 }
 
 // Whether a body with addresses of x octets ends with its attributes, and its prefix fits an address.
+#[tactic(auto, using(octets::proofs::Parts::be_front), unfolding(crate::specs::Check::filled))]
 fn is_filled(body: &[u8], x: usize) -> bool
     requires { x ≤ 16 }
     ensures { result ≡ filled x body.now }

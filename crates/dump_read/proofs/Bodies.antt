@@ -1,23 +1,22 @@
 -- A whole body in each of its cases.
 use Prim.Native.Nat.{ℕ, ◌+◌, ◌-◌, ◌*◌, ◌≤◌}
-use mathlib.Core.Path.{◌≡◌, sym, ◌∙◌, ap}
+use mathlib.Core.Path.{◌≡◌, refl, sym, ◌∙◌, ap}
 use mathlib.Core.List.{List}
 use native.Mathlib.Nat.{add-zero}
 use native.Mathlib.Omega.{arith}
 use lib.ListN.{length, get_or, take}
 use lib.Seq.{length-take-le}
 use lib.Dec.{eqb}
-use borrow.Author.Tests.{eq-eqb, ne_eqb}
-use Rattle.answer.specs.Refusal.{number_of, outcome_number}
-use Rattle.answer.specs.declared.Outcome.{Outcome}
-use Rattle.answer.specs.declared.Outcome.TheVariants.{Accepted, Refused}
+use borrow.Author.Tests.{eq-eqb}
+use Rattle.std.specs.Prelude.{Option, Some, None, IsSome}
+use Rattle.answer.specs.Refusal.{number_of}
 use Rattle.answer.specs.declared.Refusal.{Refusal}
-use Rattle.answer.proofs.Refusals.{number-not-zero}
+use Rattle.answer.proofs.Refusals.{number_refusal}
 use Rattle.octets.specs.Octets.{be_at, part}
 use Rattle.octets.proofs.Numbers.{be_take}
 use Rattle.octets.proofs.Parts.{octet_part, be_part, be_front}
-use Rattle.octets_address.specs.Address.{size_of, address_size, address_at, address_in}
-use Rattle.octets_address.proofs.Addresses.{address_fits, family_size}
+use Rattle.octets_address.specs.Address.{size_of, address_size, nonzero, address_at, address_in}
+use Rattle.octets_address.proofs.Addresses.{address_fits, found_size, nonzero_some, nonzero_none}
 use Rattle.dump_layout.specs.Layout.{attributes_at, dump_at}
 use Rattle.dump_layout.specs.Check.{check_dump}
 use Rattle.dump_layout.specs.declared.Dump.{Dump}
@@ -51,24 +50,28 @@ module _ (s : List ℕ) (x : ℕ) (w : size_of (eqb x 16) ≡ x) (h : attributes
       let j = address_there (10 + x) (omega arith) r in
       rw (v ∙ be_take s 4 0 2 (omega arith), q ∙ be_take s 4 2 2 (omega arith), i, d, k, l, j, m)
 
-module _ (s : List ℕ) (u : ℕ) (a : Outcome) (said : outcome_number a ≡ check_dump s u) where
-  pub dump_unmet : {r : Refusal} → a ≡ Refused r → no_dump (number_of r) ≡ dump_of s u
+module _ (s : List ℕ) (u : ℕ) where
+  pub dump_unmet : (r : Refusal) → number_of r ≡ check_dump s u → no_dump (number_of r) ≡ dump_of s u
   unfolding dump_of
-  dump_unmet {r} v =
-      let n : number_of r ≡ check_dump s u = ap outcome_number (sym v) ∙ said in
-      rw (← n, ne_eqb (number_of r) 0 (number-not-zero r))
+  dump_unmet r n = rw (← n, number_refusal r)
 
-  -- x is the size of an address
-  module _ (v : a ≡ Accepted) {x : ℕ} (e : x ≡ address_size u) where
-    passes : check_dump s u ≡ 0
-    passes = sym said ∙ ap outcome_number v
+  -- a body that passes
+  module _ (passes : 0 ≡ check_dump s u) where
+    -- there is a size of its addresses
+    pub size_there : (o : Option ℕ) → o ≡ nonzero (address_size u) → IsSome o
+    size_there (Some x) e = refl
+    size_there None e = absurd (passes-carried s u (sym passes) (nonzero_none (address_size u) e))
 
-    -- an address is long or has x octets all the same, and what stands before the attributes is there
-    pub front_there : (size_of (eqb x 16) ≡ x) × (attributes_at x ≤ length s)
-    front_there =
-        let f : attributes_at (address_size u) + be_at s (12 + 2 * address_size u) 2 ≡ length s = (passes-filled s u passes).whole in
-        (family_size u e (λ z. passes-carried s u passes (sym e ∙ z)), omega arith)
+    -- x is that size
+    module _ {x : ℕ} (sized : Some x ≡ nonzero (address_size u)) where
+      -- an address is long or has x octets all the same, and what stands before the attributes is there
+      pub front_there : (size_of (eqb x 16) ≡ x) × (attributes_at x ≤ length s)
+      front_there =
+          let z = nonzero_some (address_size u) sized in
+          let f = (passes-filled s u (sym passes)).whole in
+          (found_size u sized, omega (arith, z.0))
 
-    pub dump-met : {d : Dump} → d ≡ dump_at x s → record { number = 0; dump = d; start = 14 + 2 * x; end = length s } ≡ dump_of s u
-    unfolding dump_of
-    dump-met q = rw (q, e, eq-eqb (check_dump s u) 0 passes)
+      pub dump-met : {d : Dump} → d ≡ dump_at x s
+          → record { number = 0; dump = d; start = 14 + 2 * x; end = length s } ≡ dump_of s u
+      unfolding dump_of
+      dump-met q = rw (q, (nonzero_some (address_size u) sized).0, eq-eqb (check_dump s u) 0 (sym passes))

@@ -1,6 +1,7 @@
 -- A TABLE_DUMP body, read (RFC 6396, 4.2; 02, wish 3): all fields, and the attributes as a part of the body, which they end.
-use Rattle.std.specs.Prelude.{ℕ, List, cond, length, replicate, eqb}
-use Rattle.answer.specs.Refusal.{outcome_number}
+use Rattle.std.specs.Prelude.{ℕ, List, cond, length, replicate, eqb, Result, Ok, Err}
+use Rattle.answer.specs.Refusal.{number_of}
+use Rattle.answer.specs.declared.Refusal.{Refusal}
 use Rattle.octets_address.specs.Address.{address_size}
 use Rattle.dump_layout.specs.Layout.{attributes_at, dump_at}
 use Rattle.dump_layout.specs.Check.{check_dump}
@@ -34,8 +35,9 @@ no_dump n =
     }
 
 -- what an answer says
-abbrev pub reading : DumpRead → Reading
-reading r = record { number = outcome_number r.outcome; dump = r.dump; start = r.start; end = r.end }
+abbrev pub reading : Result DumpRead Refusal → Reading
+reading (Ok r) = record { number = 0; dump = r.dump; start = r.start; end = r.end }
+reading (Err r) = no_dump (number_of r)
 
 -- the body s of subtype u
 unfoldable pub dump_of : List ℕ → ℕ → Reading

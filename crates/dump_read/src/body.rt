@@ -1,31 +1,26 @@
 // Reading a whole body: its fields, and where its attributes stand.
 ghost use Rattle.std.specs.Prelude.{◌≡◌, ◌≤◌, eqb, length};
-ghost use Rattle.answer.specs.Refusal.{number_of};
 ghost use Rattle.octets_address.specs.Address.{size_of};
 ghost use Rattle.dump_layout.specs.Layout.{attributes_at, dump_at};
-ghost use Rattle.dump_read.specs.Read.{dump_of, no_dump, reading};
+ghost use Rattle.dump_read.specs.Read.{dump_of, reading};
 
 use crate::DumpRead;
-use answer::{Outcome, Refusal};
+use answer::Refusal;
 use dump_layout::Dump;
 
-// The fields of a body, and where its attributes stand.
-pub fn read_dump(body: &[u8], subtype: u16) -> DumpRead
+// The fields of a body, and where its attributes stand. A body that passes has a size of its addresses.
+#[tactic(auto, using(octets_address::proofs::Addresses::found_le))]
+pub fn read_dump(body: &[u8], subtype: u16) -> Result<DumpRead, Refusal>
     ensures answer { reading result ≡ dump_of body.now subtype }
 {
-    match dump_layout::check_dump(body, subtype) {
-        Outcome::Refused(r) => refused(r),
-        Outcome::Accepted => {
-            let x = octets_address::address_size(subtype);
-            let start = 14 + 2 * x;
-            DumpRead {
-                outcome: Outcome::Accepted,
-                dump: fields(body, x),
-                start,
-                end: body.len(),
-            }
-        }
-    }
+    dump_layout::check_dump(body, subtype)?;
+    let x = octets_address::address_size(subtype).unwrap();
+    let start = 14 + 2 * x;
+    Ok(DumpRead {
+        dump: fields(body, x),
+        start,
+        end: body.len(),
+    })
 }
 
 // What stands before the attributes, by parts whose lengths are written out, so that no octet is tested by itself.
@@ -49,26 +44,5 @@ fn fields(body: &[u8], x: usize) -> Dump
         originated: octets::be32(middle, 2),
         peer: octets_address::read_address(body, front, x == 16),
         asn: octets::be16(&body[at..end], 0) as u32,
-    }
-}
-
-// A refusal, with 0 in every other field.
-fn refused(r: Refusal) -> DumpRead
-    ensures { reading result ≡ no_dump (number_of r) }
-{
-    DumpRead {
-        outcome: Outcome::Refused(r),
-        dump: Dump {
-            view: 0,
-            sequence: 0,
-            prefix: [0u8; 16],
-            bits: 0,
-            status: 0,
-            originated: 0,
-            peer: [0u8; 16],
-            asn: 0,
-        },
-        start: 0,
-        end: 0,
     }
 }

@@ -3,13 +3,12 @@
 
 mod body;
 
-use answer::Outcome;
 pub use body::read_dump;
 use dump_layout::Dump;
 
+// The fields of a body, and its attributes.
 #[derive(Clone, Copy)]
 pub struct DumpRead {
-    pub outcome: Outcome,
     pub dump: Dump,
     // Where the attributes start and where they end, in the body.
     pub start: usize,

@@ -1,16 +1,21 @@
 -- What the call answers, one law for each way through it.
 use Prim.Native.Nat.{ℕ, ◌+◌, ◌*◌, ◌<◌, ◌≤◌}
 use mathlib.Core.Path.{◌≡◌, refl, sym, ◌∙◌}
-use mathlib.Core.Bool.{Bool, true, false, not, true≢false}
+use mathlib.Core.Bool.{Bool, true, false, true≢false}
 use mathlib.Core.List.{List, ◌++◌}
 use lib.ListN.{length}
 use lib.Dec.{leb}
-use borrow.Author.Tests.{eq-eqb, ne_eqb, le-leb, lt-leb, leb-true, not-true, not-false}
+use borrow.Author.Tests.{ne_eqb, le-leb, lt-leb, leb-true}
+use Rattle.std.specs.Prelude.{Some, None}
+use Rattle.answer.specs.Refusal.{number_of}
+use Rattle.answer.specs.declared.Refusal.{Refusal}
+use Rattle.answer.specs.declared.Refusal.TheVariants.{TooLarge}
 use Rattle.answer.specs.Writing.{refuse, at_front}
 use Rattle.answer.proofs.Writers.{front_full, front_stored}
 use Rattle.octets.specs.Octets.{patch}
 use Rattle.octets.proofs.Stores.{stores_front}
-use Rattle.octets_address.specs.Address.{address_size}
+use Rattle.octets_address.specs.Address.{address_size, nonzero}
+use Rattle.octets_address.proofs.Addresses.{nonzero_some, nonzero_none}
 use Rattle.dump_layout.specs.Layout.{attributes_at, head_octets, dump_octets}
 use Rattle.dump_layout.specs.declared.Dump.{Dump}
 use Rattle.dump_layout.proofs.Fields.{length-head, length-dump}
@@ -18,19 +23,6 @@ use Rattle.dump_write.specs.Write.{fits, write_dump}
 
 -- ---- whether each value fits
 module _ (x : ℕ) (d : Dump) (n : ℕ) where
-  pub unfit-bits : 8 * x < d.bits → false ≡ fits x d n
-  unfolding fits
-  unfit-bits h = simp (lt-leb _ _ h)
-
-  module _ (b : d.bits ≤ 8 * x) where
-    pub unfit_as : 65535 < d.asn → false ≡ fits x d n
-    unfolding fits
-    unfit_as h = simp (le-leb _ _ b, lt-leb _ _ h)
-
-    pub fit-rest : d.asn ≤ 65535 → leb n 65535 ≡ fits x d n
-    unfolding fits
-    fit-rest h = simp (le-leb _ _ b, le-leb _ _ h)
-
   -- what values that fit have
   pub record Fit : Type 0 where
     pub bits : d.bits ≤ 8 * x
@@ -53,33 +45,52 @@ module _ (x : ℕ) (d : Dump) (n : ℕ) where
   fit_so f = simp (le-leb _ _ f.bits, le-leb _ _ f.asn, le-leb _ _ f.count)
 
 -- ---- the call
-module _ (s : List ℕ) (u : ℕ) (d : Dump) (attributes : List ℕ) {x : ℕ} (sized : x ≡ address_size u) where
-  pub write_other : x ≡ 0 → refuse 6 s ≡ write_dump s u d attributes
+module _ (s : List ℕ) (u : ℕ) (d : Dump) (attributes : List ℕ) where
+  pub write_other : None ≡ nonzero (address_size u) → refuse 6 s ≡ write_dump s u d attributes
   unfolding write_dump
-  write_other z = rw (← sized, eq-eqb x 0 z)
+  write_other z = rw (nonzero_none (address_size u) z)
 
-  module _ (z : x ≡ 0 → ⊥) {f : Bool} (e : f ≡ fits x d (length attributes)) where
-    pub write_large : not f ≡ true → refuse 10 s ≡ write_dump s u d attributes
+  -- x is the size of an address
+  module _ {x : ℕ} (sized : Some x ≡ nonzero (address_size u)) where
+    -- a value that does not fit
+    large : fits x d (length attributes) ≡ false → refuse 10 s ≡ write_dump s u d attributes
     unfolding write_dump
-    write_large n = rw (← sized, ne_eqb x 0 z, ← e, not-true f n)
+    large f = let z = nonzero_some (address_size u) sized in rw (← z.0, ne_eqb x 0 z.1, f)
 
-    module _ (n : not f ≡ false) where
-      pub write_fit : Fit x d (length attributes)
-      write_fit = fit_has x d (length attributes) (sym e ∙ not-false f n)
+    pub large-bits : 8 * x < d.bits → refuse 10 s ≡ write_dump s u d attributes
+    unfolding fits
+    large-bits h = large (simp (lt-leb _ _ h))
 
-      front : at_front s (dump_octets x d attributes) ≡ write_dump s u d attributes
-      unfolding write_dump
-      front = rw (← sized, ne_eqb x 0 z, ← e, not-false f n)
+    module _ (b : d.bits ≤ 8 * x) where
+      pub large_as : (r : Refusal) → (r ≡ TooLarge) × (65535 < d.asn) → refuse (number_of r) s ≡ write_dump s u d attributes
+      unfolding fits
+      large_as r h = rw h.0 (large (simp (le-leb _ _ b, lt-leb _ _ h.1)))
 
-      pub write_full : length s < attributes_at x + length attributes → refuse 9 s ≡ write_dump s u d attributes
-      write_full h = front_full s (dump_octets x d attributes) (attributes_at x + length attributes) (length-dump x d attributes) h ∙ front
+      module _ {v : ℕ} (a : (v ≡ d.asn) × (d.asn ≤ 65535)) where
+        pub large_count : (r : Refusal) → (r ≡ TooLarge) × (65535 < length attributes)
+            → refuse (number_of r) s ≡ write_dump s u d attributes
+        unfolding fits
+        large_count r h = rw h.0 (large (simp (le-leb _ _ b, le-leb _ _ a.1, lt-leb _ _ h.1)))
 
-      pub write_done : attributes_at x + length attributes ≤ length s → {t v : List ℕ} → t ≡ patch s 0 (head_octets x d (length attributes))
-          → v ≡ patch t (attributes_at x) attributes
-          → record { number = 0; octets = attributes_at x + length attributes; output = v } ≡ write_dump s u d attributes
-      unfolding dump_octets
-      write_done h {t} {v} head rest =
-          let l : length (head_octets x d (length attributes)) ≡ attributes_at x = length-head x d (length attributes) in
-          let all : v ≡ patch s 0 (head_octets x d (length attributes) ++ attributes) =
-          stores_front s (attributes_at x) (head_octets x d (length attributes)) attributes l head rest in
-          front_stored s (dump_octets x d attributes) (attributes_at x + length attributes) (length-dump x d attributes) h v all ∙ front
+        -- every value fits
+        module _ {k : ℕ} (c : (k ≡ length attributes) × (length attributes ≤ 65535)) where
+          front : at_front s (dump_octets x d attributes) ≡ write_dump s u d attributes
+          unfolding write_dump
+          front =
+              let z = nonzero_some (address_size u) sized in
+              let f = fit_so x d (length attributes) (record { bits = b; asn = a.1; count = c.1 }) in
+              rw (← z.0, ne_eqb x 0 z.1, f)
+
+          pub write_full : length s < attributes_at x + length attributes → refuse 9 s ≡ write_dump s u d attributes
+          write_full h =
+              front_full s (dump_octets x d attributes) (attributes_at x + length attributes) (length-dump x d attributes) h ∙ front
+
+          pub write_done : attributes_at x + length attributes ≤ length s → {t v : List ℕ} → t ≡ patch s 0 (head_octets x d k)
+              → v ≡ patch t (attributes_at x) attributes
+              → record { number = 0; octets = attributes_at x + length attributes; output = v } ≡ write_dump s u d attributes
+          unfolding dump_octets
+          write_done h {t} {v} head rest =
+              let l : length (head_octets x d (length attributes)) ≡ attributes_at x = length-head x d (length attributes) in
+              let all : v ≡ patch s 0 (head_octets x d (length attributes) ++ attributes) =
+              stores_front s (attributes_at x) (head_octets x d (length attributes)) attributes l (rw c.0 at head) rest in
+              front_stored s (dump_octets x d attributes) (attributes_at x + length attributes) (length-dump x d attributes) h v all ∙ front

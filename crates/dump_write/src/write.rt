@@ -1,53 +1,55 @@
 // Writing a whole body.
-ghost use Rattle.std.specs.Prelude.{◌≡◌, ◌≤◌, eqb, length};
+ghost use Rattle.std.specs.Prelude.{◌≡◌, ◌<◌, ◌≤◌, MatchResult, eqb, length};
 ghost use Rattle.answer.specs.Writing.{wrote};
+ghost use Rattle.answer.specs.declared.Refusal.TheVariants.{TooLarge};
 ghost use Rattle.octets.specs.Octets.{patch};
 ghost use Rattle.octets_address.specs.Address.{size_of};
 ghost use Rattle.dump_layout.specs.Layout.{attributes_at, head_octets};
-ghost use Rattle.dump_write.specs.Write.{fits, write_dump};
+ghost use Rattle.dump_write.specs.Write.{write_dump};
 
-use answer::{Refusal, Written};
+use answer::Refusal;
 use dump_layout::Dump;
 
 // A body at the front of the lent output.
-pub fn write_dump(out: &mut [u8], subtype: u16, d: Dump, attributes: &[u8]) -> Written
+#[tactic(auto, using(octets_address::proofs::Addresses::found_le))]
+pub fn write_dump(
+    out: &mut [u8],
+    subtype: u16,
+    d: Dump,
+    attributes: &[u8],
+) -> Result<usize, Refusal>
     ensures answer { wrote result out.new ≡ write_dump out.old subtype d attributes.now }
 {
-    let x = octets_address::address_size(subtype);
-    if x == 0 {
-        return Written::Refused(Refusal::OtherSubtype);
+    let Some(x) = octets_address::address_size(subtype) else {
+        return Err(Refusal::OtherSubtype);
+    };
+    if 8 * x < d.bits as usize {
+        return Err(Refusal::TooLarge);
     }
     let n = attributes.len();
-    if !is_fit(x, d, n) {
-        return Written::Refused(Refusal::TooLarge);
-    }
+    let asn = narrow(d.asn as usize)?;
+    let count = narrow(n)?;
     let start = 14 + 2 * x;
     if out.len() < start + n {
-        return Written::Refused(Refusal::NoRoom);
+        return Err(Refusal::NoRoom);
     }
-    put_fields(out, x, d, n as u16);
+    put_fields(out, x, d, asn, count);
     octets_copies::put_octets(out, start, attributes);
-    Written::Octets(start + n)
+    Ok(start + n)
 }
 
-// Whether each value fits its field, and the prefix an address of x octets.
-fn is_fit(x: usize, d: Dump, n: usize) -> bool
-    requires { x ≤ 16 }
-    ensures { result ≡ fits x d n }
+// A number in a field of two octets.
+fn narrow(n: usize) -> Result<u16, Refusal>
+    ensures { MatchResult result (λ v. (v ≡ n) × (n ≤ 65535)) (λ r. (r ≡ TooLarge) × (65535 < n)) }
 {
-    if 8 * x < d.bits as usize {
-        return false;
-    }
-    if 65535 < d.asn {
-        return false;
-    }
-    n <= 65535
+    u16::try_from(n).map_err(|_| Refusal::TooLarge)
 }
 
-// What stands before n octets of attributes.
-fn put_fields(out: &mut [u8], x: usize, d: Dump, n: u16)
-    requires { (size_of (eqb x 16) ≡ x) × (attributes_at x ≤ length out.old) × (d.asn ≤ 65535) }
-    ensures { out.new ≡ patch out.old 0 (head_octets x d n) }
+// What stands before the attributes, with the AS and the length of the attributes in two octets.
+#[tactic(auto, using(octets_address::proofs::Addresses::size_most))]
+fn put_fields(out: &mut [u8], x: usize, d: Dump, asn: u16, count: u16)
+    requires { (size_of (eqb x 16) ≡ x) × (attributes_at x ≤ length out.old) × (asn ≡ d.asn) }
+    ensures { out.new ≡ patch out.old 0 (head_octets x d count) }
 {
     let prefix = d.prefix;
     let peer = d.peer;
@@ -59,6 +61,6 @@ fn put_fields(out: &mut [u8], x: usize, d: Dump, n: u16)
     octets::put_octet(out, 5 + x, d.status);
     octets::put_be32(out, 6 + x, d.originated);
     octets_address::put_address(out, 10 + x, peer, x == 16);
-    octets::put_be16(out, 10 + 2 * x, d.asn as u16);
-    octets::put_be16(out, 12 + 2 * x, n);
+    octets::put_be16(out, 10 + 2 * x, asn);
+    octets::put_be16(out, 12 + 2 * x, count);
 }

@@ -8,19 +8,16 @@ use lib.ListN.{length, take}
 use lib.Seq.{length-take-le}
 use lib.Dec.{ltb, eqb}
 use borrow.Author.Tests.{eqb-true, eqb-false, le-ltb, eq-eqb}
-use Rattle.answer.specs.Refusal.{number_of}
 use Rattle.answer.specs.Writing.{refuse}
-use Rattle.answer.specs.declared.Refusal.{Refusal}
 use Rattle.rib_head.specs.Layout.{path_size}
 use Rattle.rib_head.specs.Head.{count_at, declared, entries_at, check_rib}
 use Rattle.rib_entries.specs.Entry.{passed, placed, after_of}
 use Rattle.rib_entries.specs.declared.Cursor.{Cursor}
 use Rattle.rib_write.specs.Layout.{entry_octets}
-use Rattle.rib_write.specs.Push.{unfit, added, Pushing, unpushed, pushed, standing, push_after, push_entry}
+use Rattle.rib_write.specs.Push.{unfit, added, Pushing, unpushed, standing, push_after, push_entry}
 use Rattle.rib_write.specs.declared.NewEntry.{NewEntry}
 use Rattle.rib_write.specs.declared.Builder.{Builder}
-use Rattle.rib_write.specs.declared.BuilderAnswer.{BuilderAnswer}
-use Rattle.rib_write.specs.declared.BuilderAnswer.TheVariants.{Open, Refused}
+use Rattle.std.specs.Prelude.{Ok}
 use Rattle.rib_add.specs.Add.{Opening, unopened, open_values, open_of, add_entry, length_only}
 
 -- a body with every declared entry and nothing after them
@@ -97,27 +94,17 @@ module _ (s : List ℕ) (len t : ℕ) (h : len ≤ length s) where
     add_of_push = rw (le-ltb (length s) len h, standing-whole (take len s) t w len) add_of_after
 
   -- the way of the code: a body is opened, and then the entry is pushed
-  module _ (a : BuilderAnswer) (said : open_values a ≡ open_of (take len s) t) {b : Builder} (v : a ≡ Open b) where
-    opening : record { number = 0; len = b.len; at = b.at; count = b.count } ≡ open_of (take len s) t
-    opening = rw v at said
-
+  module _ {b : Builder} (said : open_values (Ok b) ≡ open_of (take len s) t) where
     whole : Whole (take len s) t
-    whole = whole-opened (take len s) t (ap (λ (x : Opening). x.number) (sym opening))
+    whole = whole-opened (take len s) t (ap (λ (x : Opening). x.number) (sym said))
 
     builder : b ≡ end_of
     builder =
-        let o = opening ∙ open_whole (take len s) t whole in
+        let o = said ∙ open_whole (take len s) t whole in
         let p : b.len ≡ len = ap (λ (x : Opening). x.len) o ∙ length-take-le len s h in
         let q : b.at ≡ count_at (take len s) = ap (λ (x : Opening). x.at) o in
         let r : b.count ≡ declared (take len s) = ap (λ (x : Opening). x.count) o in
         rw (p, q, r) refl
 
-    module _ (e : NewEntry) (l : List ℕ) (p : BuilderAnswer) (u : List ℕ) (does : pushed p u ≡ push_entry s t b e l) where
-      add_pushed : length_only (pushed p u) ≡ add_entry s len t e l
-      add_pushed = ap length_only does ∙ rw builder (add_of_push whole e l)
-
-      pub add_refused : {r : Refusal} → p ≡ Refused r → refuse (number_of r) u ≡ add_entry s len t e l
-      add_refused q = rw q at add_pushed
-
-      pub add_open : {d : Builder} → p ≡ Open d → record { number = 0; octets = d.len; output = u } ≡ add_entry s len t e l
-      add_open q = rw q at add_pushed
+    pub add_pushed : (e : NewEntry) (l : List ℕ) {p : Pushing} → p ≡ push_entry s t b e l → length_only p ≡ add_entry s len t e l
+    add_pushed e l does = ap length_only does ∙ rw builder (add_of_push whole e l)

@@ -1,8 +1,9 @@
 -- Opening a RIB body and adding an entry to it (01, RIB bodies): 8 for a length beyond the output, then 6, then 7 (a head that cannot be
 -- read, a declared count unlike the read one, octets left over), then 10 and 9 as a push has them. The entry goes straight after the
 -- body, and the count is raised.
-use Rattle.std.specs.Prelude.{ℕ, ◌+◌, ◌-◌, List, cond, ◌&&◌, length, take, ltb, eqb}
+use Rattle.std.specs.Prelude.{ℕ, ◌+◌, ◌-◌, List, cond, ◌&&◌, length, take, ltb, eqb, Result, Ok, Err}
 use Rattle.answer.specs.Refusal.{number_of}
+use Rattle.answer.specs.declared.Refusal.{Refusal}
 use Rattle.answer.specs.Writing.{Writing, refuse}
 use Rattle.rib_head.specs.Layout.{path_size}
 use Rattle.rib_head.specs.Head.{count_at, declared}
@@ -10,8 +11,7 @@ use Rattle.rib_entries.specs.Entry.{after_of}
 use Rattle.rib_write.specs.Layout.{entry_octets}
 use Rattle.rib_write.specs.Push.{unfit, added, Pushing}
 use Rattle.rib_write.specs.declared.NewEntry.{NewEntry}
-use Rattle.rib_write.specs.declared.BuilderAnswer.{BuilderAnswer}
-use Rattle.rib_write.specs.declared.BuilderAnswer.TheVariants.{Open, Refused}
+use Rattle.rib_write.specs.declared.Builder.{Builder}
 
 -- a builder in numbers: the refusal's number or 0, where the body ends, where its count stands, and the count
 pub record Opening : Type 0 where
@@ -25,9 +25,9 @@ abbrev pub unopened : ℕ → Opening
 unopened n = record { number = n; len = 0; at = 0; count = 0 }
 
 -- what each answer says
-abbrev pub open_values : BuilderAnswer → Opening
-open_values (Open b) = record { number = 0; len = b.len; at = b.at; count = b.count }
-open_values (Refused r) = unopened (number_of r)
+abbrev pub open_values : Result Builder Refusal → Opening
+open_values (Ok b) = record { number = 0; len = b.len; at = b.at; count = b.count }
+open_values (Err r) = unopened (number_of r)
 
 -- a builder at the end of the body s, where reading stops at its end with every declared entry read
 unfoldable pub open_of : List ℕ → ℕ → Opening

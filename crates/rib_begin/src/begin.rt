@@ -5,25 +5,29 @@ ghost use Rattle.octets.specs.Octets.{patch};
 ghost use Rattle.rib_begin.specs.Layout.{head_octets};
 ghost use Rattle.rib_begin.specs.Begin.{begin_rib};
 
-use answer::{Refusal, Written};
+use answer::Refusal;
 
 // A body with no entry at the front of the lent output.
-pub fn begin_rib(out: &mut [u8], subtype: u16, sequence: u32, bits: u8, prefix: [u8; 16]) -> Written
+#[tactic(auto, unfolding(crate::specs::Begin::begin_rib))]
+pub fn begin_rib(
+    out: &mut [u8],
+    subtype: u16,
+    sequence: u32,
+    bits: u8,
+    prefix: [u8; 16],
+) -> Result<usize, Refusal>
     ensures answer { wrote result out.new ≡ begin_rib out.old subtype sequence bits prefix }
 {
-    let l = rib_head::layout_of(subtype);
-    if !l.carried {
-        return Written::Refused(Refusal::OtherSubtype);
-    }
+    let l = rib_head::layout_of(subtype).ok_or(Refusal::OtherSubtype)?;
     if l.most < bits {
-        return Written::Refused(Refusal::TooLarge);
+        return Err(Refusal::TooLarge);
     }
     let size = rib_head::prefix_size(bits);
     if out.len() < 7 + size {
-        return Written::Refused(Refusal::NoRoom);
+        return Err(Refusal::NoRoom);
     }
     put_head(out, sequence, bits, prefix);
-    Written::Octets(7 + size)
+    Ok(7 + size)
 }
 
 // The head of a body with no entry.

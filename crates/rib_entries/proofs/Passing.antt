@@ -1,96 +1,19 @@
 -- Entries that fit and entries that do not, and what is passed of them.
-use Prim.Native.Nat.{ℕ, zero, suc, ◌+◌, ◌-◌, ◌<◌, ◌≤◌}
-use mathlib.Core.Path.{◌≡◌, refl, sym, ◌∙◌, ap}
-use mathlib.Core.Bool.{Bool, true, false, cond, true≢false}
+use Prim.Native.Nat.{ℕ, zero, suc, ◌-◌, ◌<◌, ◌≤◌}
+use mathlib.Core.Path.{◌≡◌, refl}
+use mathlib.Core.Bool.{Bool, true, false}
 use mathlib.Core.List.{List}
 use native.Mathlib.Omega.{arith}
 use lib.ListN.{length}
-use lib.Dec.{leb}
-use borrow.Author.Tests.{le-leb, lt-leb, leb-true, eq-eqb}
-use Rattle.answer.specs.Refusal.{number_of}
-use Rattle.answer.specs.declared.Refusal.{Refusal}
-use Rattle.octets.specs.Octets.{be_at}
-use Rattle.rib_entries.specs.declared.Entry.{Entry}
-use Rattle.rib_entries.specs.declared.EntryAnswer.{EntryAnswer}
-use Rattle.rib_entries.specs.declared.EntryAnswer.TheVariants.{Read, Refused}
-use Rattle.rib_entries.specs.Entry.{Entered, no_entry, attributes_at, entry_end, fits, entry_here, entry_values, passed}
-use Rattle.answer.proofs.Refusals.{number_refusal}
-
--- the same entries by the same size of a path number
-pub here_sized : (s : List ℕ) (at : ℕ) {p q : ℕ} → q ≡ p → entry_here q s at ≡ entry_here p s at
-here_sized s at e = ap (λ (x : ℕ). entry_here x s at) e
-
-pub passed_sized : (s : List ℕ) (at left : ℕ) {p q : ℕ} → q ≡ p → passed q s at left ≡ passed p s at left
-passed_sized s at left e = ap (λ (x : ℕ). passed x s at left) e
+use borrow.Author.Tests.{leb-true}
+use Rattle.std.proofs.Common.{Some, None}
+use Rattle.std.proofs.lemmas.Bool.Decides.{nat_tests}
+use Rattle.rib_entries.specs.declared.Cursor.{Cursor}
+use Rattle.rib_entries.specs.declared.Next.{Next}
+use Rattle.rib_entries.specs.Entry.{entry_end, fits, passed}
+use Rattle.rib_entries.specs.Steps.{step_at}
 
 module _ (p : ℕ) (s : List ℕ) (at : ℕ) where
-  fits_not : length s < entry_end p s at → fits p s at ≡ false
-  unfolding fits
-  fits_not h = lt-leb _ _ h
-
-  unfit : length s < entry_end p s at → no_entry 8 ≡ entry_here p s at
-  unfolding entry_here
-  unfit h = rw (fits_not h)
-
-  -- an entry past the end, and one whose fields run past it
-  pub here_past : length s < at → no_entry 8 ≡ entry_here p s at
-  unfolding entry_end attributes_at
-  here_past h = unfit (omega arith)
-
-  pub here_short : {q : ℕ} → q ≡ p → length s - at < 8 + q → no_entry 8 ≡ entry_here p s at
-  unfolding entry_end attributes_at
-  here_short e h = unfit (omega arith)
-
-  -- the attributes start after the other fields, and the length before them is the attributes'
-  module _ {q start len : ℕ} (e : q ≡ p) (b : start ≡ at + (8 + q)) (r : len ≡ be_at s (start - 2) 2) where
-    end_of : start + len ≡ entry_end p s at
-    unfolding entry_end attributes_at
-    end_of =
-        let k : start - 2 ≡ at + (6 + p) = omega arith in
-        let m : start ≡ at + (8 + p) = omega arith in
-        rw (r, k, m)
-
-    pub here_cut : length s - start < len → no_entry 8 ≡ entry_here p s at
-    here_cut h = unfit (omega (arith, end_of))
-
-    -- an entry within the body
-    pub here_read : start ≤ length s → len ≤ length s - start → {peer originated path : ℕ}
-        → peer ≡ be_at s at 2 → originated ≡ be_at s (at + 2) 4 → path ≡ be_at s (at + 6) p
-        → record { number = 0; peer = peer; originated = originated; path = path; start = start; end = start + len } ≡ entry_here p s at
-    unfolding entry_here fits attributes_at
-    here_read l h x y z =
-        let f : leb (entry_end p s at) (length s) ≡ true = le-leb (entry_end p s at) (length s) (omega (arith, end_of)) in
-        let m : start ≡ at + (8 + p) = omega arith in
-        rw (f, end_of, x, y, z, m)
-
-  -- what an answer tells of the entry
-  module _ (a : EntryAnswer) (said : entry_values a ≡ entry_here p s at) where
-    number-said : (entry_values a).number ≡ cond (fits p s at) 0 8
-    unfolding entry_here
-    number-said = ap (λ (x : Entered). x.number) said ∙ by_test (fits p s at) refl
-      where
-        by_test : (t : Bool) → fits p s at ≡ t → (entry_here p s at).number ≡ cond t 0 8
-        by_test true f = rw f
-        by_test false f = rw f
-
-    pub here_fits : {e : Entry} → a ≡ Read e → fits p s at ≡ true
-    here_fits {e} v = by_test (fits p s at) (rw v at number-said)
-      where
-        by_test : (t : Bool) → ◌≡◌ {A = ℕ} 0 (cond t 0 8) → t ≡ true
-        by_test true n = refl
-        by_test false n = absurd (omega arith)
-
-    pub here_end : {e : Entry} → a ≡ Read e → e.end ≡ entry_end p s at
-    unfolding entry_here
-    here_end {e} v = rw (v, here_fits v) at (ap (λ (x : Entered). x.end) said)
-
-    pub here_unfit : {r : Refusal} → a ≡ Refused r → fits p s at ≡ false
-    here_unfit {r} v = by_test (fits p s at) (rw v at number-said)
-      where
-        by_test : (t : Bool) → ◌≡◌ {A = ℕ} (number_of r) (cond t 0 8) → t ≡ false
-        by_test true n = absurd (true≢false (sym (eq-eqb (number_of r) 0 n) ∙ number_refusal r))
-        by_test false n = refl
-
   -- one entry is passed, or none
   pub passed_on : (n : ℕ) → 0 < n → fits p s at ≡ true → passed p s at n ≡ passed p s (entry_end p s at) (n - 1)
   unfolding passed
@@ -102,23 +25,25 @@ module _ (p : ℕ) (s : List ℕ) (at : ℕ) where
   passed_stop (suc n) h f = rw f
   passed_stop zero h f = absurd (omega arith)
 
--- an entry that was read is passed
-pub passed_read : (p : ℕ) (s : List ℕ) (at n : ℕ) → 0 < n → (a : EntryAnswer) → entry_values a ≡ entry_here p s at → {e : Entry}
-    → a ≡ Read e
-    → passed p s at n ≡ passed p s e.end (n - 1)
-passed_read p s at n h a said v = rw (here_end p s at a said v) (passed_on p s at n h (here_fits p s at a said v))
-
--- and one that was not stops it
-pub passed-unread : (p : ℕ) (s : List ℕ) (at n : ℕ) → 0 < n → (a : EntryAnswer) → entry_values a ≡ entry_here p s at → {r : Refusal}
-    → a ≡ Refused r
-    → record { at = at; left = n } ≡ passed p s at n
-passed-unread p s at n h a said v = passed_stop p s at n h (here_unfit p s at a said v)
-
 -- nothing is asked for
 pub passed_none : (p : ℕ) (s : List ℕ) (at n : ℕ) → n ≤ 0 → record { at = at; left = n } ≡ passed p s at n
 unfolding passed
 passed_none p s at zero h = refl
 passed_none p s at (suc n) h = absurd (let z : 1 ≤ 0 = omega arith in omega arith)
+
+-- a step is taken, or none
+module _ (p : ℕ) (s : List ℕ) (c : Cursor) where
+  pub step_less : {n : Next} → Some n ≡ step_at p s c → n.cursor.left < c.left
+  unfolding step_at
+  step_less e = grind (arith, nat_tests)
+
+  pub passed_step : {n : Next} → Some n ≡ step_at p s c → passed p s c.at c.left ≡ passed p s n.cursor.at n.cursor.left
+  unfolding step_at
+  passed_step e = grind (arith, nat_tests, passed_on)
+
+  pub passed_still : None ≡ step_at p s c → c ≡ passed p s c.at c.left
+  unfolding step_at
+  passed_still e = grind (arith, nat_tests, passed_stop, passed_none)
 
 -- by the test whether the entry at an offset fits
 pub by_fit : (p : ℕ) (s : List ℕ) (at : ℕ) (P : Type 0) → (fits p s at ≡ true → P) → (fits p s at ≡ false → P) → P

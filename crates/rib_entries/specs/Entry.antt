@@ -2,17 +2,15 @@
 -- attributes. p is 0 or 4, by the subtype. 01, RIB bodies: reading stops at the first entry that does not fit; entry i at or beyond
 -- the read count is 8, after 6 and 7.
 use Rattle.std.specs.Prelude.{ℕ, zero, suc, ◌+◌, ◌-◌, List, Bool, true, false, cond, length, leb, ltb, eqb}
+use Rattle.std.specs.Prelude.{Option, Some, None, Result, Ok, Err}
 use Rattle.answer.specs.Refusal.{number_of}
+use Rattle.answer.specs.declared.Refusal.{Refusal}
 use Rattle.octets.specs.Octets.{be_at}
 use Rattle.rib_head.specs.Layout.{carried, path_size}
 use Rattle.rib_head.specs.Head.{declared, entries_at, check_rib}
 use Rattle.rib_entries.specs.declared.Cursor.{Cursor}
-use Rattle.rib_entries.specs.declared.EntryAnswer.{EntryAnswer}
-use Rattle.rib_entries.specs.declared.EntryAnswer.TheVariants as entry-answer
-use Rattle.rib_entries.specs.declared.CursorAnswer.{CursorAnswer}
-use Rattle.rib_entries.specs.declared.CursorAnswer.TheVariants as cursor-answer
-use Rattle.rib_entries.specs.declared.NextAnswer.{NextAnswer}
-use Rattle.rib_entries.specs.declared.NextAnswer.TheVariants as next-answer
+use Rattle.rib_entries.specs.declared.Entry.{Entry}
+use Rattle.rib_entries.specs.declared.Next.{Next}
 
 -- an entry in numbers: the refusal's number or 0, the fields, and where the attributes start and end in the body
 pub record Entered : Type 0 where
@@ -28,10 +26,9 @@ abbrev pub no_entry : ℕ → Entered
 no_entry n = record { number = n; peer = 0; originated = 0; path = 0; start = 0; end = 0 }
 
 -- what each answer says
-abbrev pub entry_values : EntryAnswer → Entered
-entry_values (entry-answer.Read e) =
-    record { number = 0; peer = e.peer; originated = e.originated; path = e.path; start = e.start; end = e.end }
-entry_values (entry-answer.Refused r) = no_entry (number_of r)
+abbrev pub entry_values : Result Entry Refusal → Entered
+entry_values (Ok e) = record { number = 0; peer = e.peer; originated = e.originated; path = e.path; start = e.start; end = e.end }
+entry_values (Err r) = no_entry (number_of r)
 
 -- where the attributes of the entry at an offset start
 unfoldable pub attributes_at : ℕ → ℕ → ℕ
@@ -82,9 +79,9 @@ pub record Placed : Type 0 where
   pub left : ℕ
 
 -- what each answer says
-abbrev pub cursor_values : CursorAnswer → Placed
-cursor_values (cursor-answer.At c) = record { number = 0; at = c.at; left = c.left }
-cursor_values (cursor-answer.Refused r) = record { number = number_of r; at = 0; left = 0 }
+abbrev pub cursor_values : Result Cursor Refusal → Placed
+cursor_values (Ok c) = record { number = 0; at = c.at; left = c.left }
+cursor_values (Err r) = record { number = number_of r; at = 0; left = 0 }
 
 -- the cursor c, where the head of s can be read
 unfoldable pub placed : List ℕ → ℕ → Cursor → Placed
@@ -112,11 +109,10 @@ abbrev pub no_step : ℕ → Stepped
 no_step n = record { number = n; handed = false; entry = no_entry 0; at = 0; left = 0 }
 
 -- what each answer says
-abbrev pub next_values : NextAnswer → Stepped
-next_values (next-answer.Entry e c) =
-    record { number = 0; handed = true; entry = entry_values (entry-answer.Read e); at = c.at; left = c.left }
-next_values next-answer.End = no_step 0
-next_values (next-answer.Refused r) = no_step (number_of r)
+abbrev pub next_values : Result (Option Next) Refusal → Stepped
+next_values (Ok (Some n)) = record { number = 0; handed = true; entry = entry_values (Ok n.entry); at = n.cursor.at; left = n.cursor.left }
+next_values (Ok None) = no_step 0
+next_values (Err r) = no_step (number_of r)
 
 -- the entry at the cursor c and the cursor after it, or the end: 8 for an offset beyond the body, then 6
 unfoldable pub next_of : List ℕ → ℕ → Cursor → Stepped

@@ -1,2 +1,3 @@
--- Entry: entries by number and by cursor.
+-- Entry: entries by number and by cursor. Steps: what the helpers hand on.
 pub mod Entry
+pub mod Steps

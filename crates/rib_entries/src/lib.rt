@@ -3,7 +3,6 @@
 
 mod entries;
 
-use answer::Refusal;
 pub use entries::{after_entries, entry_at, first_entry, next_entry, pass_entries};
 
 #[derive(Clone, Copy)]
@@ -24,21 +23,9 @@ pub struct Cursor {
     pub left: u16,
 }
 
+// An entry, and the cursor after it.
 #[derive(Clone, Copy)]
-pub enum EntryAnswer {
-    Read(Entry),
-    Refused(Refusal),
-}
-
-#[derive(Clone, Copy)]
-pub enum CursorAnswer {
-    At(Cursor),
-    Refused(Refusal),
-}
-
-#[derive(Clone, Copy)]
-pub enum NextAnswer {
-    Entry { entry: Entry, cursor: Cursor },
-    End,
-    Refused(Refusal),
+pub struct Next {
+    pub entry: Entry,
+    pub cursor: Cursor,
 }

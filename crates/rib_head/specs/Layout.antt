@@ -1,6 +1,6 @@
 -- What a RIB subtype decides (RFC 6396, 4.3.2: 2 to 5; RFC 8050, 4: 8 to 11, with a path number in each entry).
 -- 01, RIB bodies: at most 32 prefix bits in subtypes 2, 3, 8, 9 and 128 in 4, 5, 10, 11.
-use Rattle.std.specs.Prelude.{ℕ, ◌+◌, ◌/◌, Bool, ◌||◌, cond, eqb}
+use Rattle.std.specs.Prelude.{ℕ, ◌+◌, ◌/◌, Bool, ◌||◌, cond, eqb, Option, Some, None}
 use Rattle.rib_head.specs.declared.Layout.{Layout}
 
 -- the subtypes of IPv4 prefixes
@@ -31,6 +31,6 @@ path_size t = cond (pathed t) 4 0
 unfoldable pub prefix_size : ℕ → ℕ
 prefix_size bits = (bits + 7) / 8
 
--- all that a subtype decides
-abbrev pub layout_of : ℕ → Layout
-layout_of t = record { carried = carried t; most = most_bits t; path = path_size t }
+-- all that a subtype decides, where it is carried
+abbrev pub layout_of : ℕ → Option Layout
+layout_of t = cond (carried t) (Some (record { most = most_bits t; path = path_size t })) None

@@ -1,77 +1,61 @@
 // What a subtype decides, and whether the head of a body can be read.
-ghost use Rattle.std.specs.Prelude.{◌≡◌};
+ghost use Rattle.std.specs.Prelude.{◌≡◌, ◌≤◌, cond, eqb};
 ghost use Rattle.answer.specs.Refusal.{outcome_number};
-ghost use Rattle.rib_head.specs.Layout.{layout_of, prefix_size};
+ghost use Rattle.rib_head.specs.Layout.{layout_of, path_size, prefix_size};
 ghost use Rattle.rib_head.specs.Head.{readable, check_rib};
 
 use crate::Layout;
-use answer::{Outcome, Refusal};
+use answer::Refusal;
 
-// What a subtype decides.
-pub fn layout_of(subtype: u16) -> Layout
+// What a subtype decides, where it is carried.
+pub fn layout_of(subtype: u16) -> Option<Layout>
     ensures answer { result ≡ layout_of subtype }
 {
     match subtype {
-        2 | 3 => Layout {
-            carried: true,
-            most: 32,
-            path: 0,
-        },
-        4 | 5 => Layout {
-            carried: true,
-            most: 128,
-            path: 0,
-        },
-        8 | 9 => Layout {
-            carried: true,
-            most: 32,
-            path: 4,
-        },
-        10 | 11 => Layout {
-            carried: true,
-            most: 128,
-            path: 4,
-        },
-        _ => Layout {
-            carried: false,
-            most: 0,
-            path: 0,
-        },
+        2 | 3 => Some(Layout { most: 32, path: 0 }),
+        4 | 5 => Some(Layout { most: 128, path: 0 }),
+        8 | 9 => Some(Layout { most: 32, path: 4 }),
+        10 | 11 => Some(Layout { most: 128, path: 4 }),
+        _ => None,
     }
+}
+
+// How many octets the path number of an entry takes: those of subtypes 8 to 11 have one (RFC 8050, 4).
+#[tactic(auto, unfolding(crate::specs::Layout::path_size, crate::specs::Layout::pathed))]
+pub fn path_size(subtype: u16) -> usize
+    ensures answer { result ≡ path_size subtype }
+    ensures sized { cond (eqb result 0) 0 4 ≡ result }
+{
+    if matches!(subtype, 8..=11) { 4 } else { 0 }
 }
 
 // Whether a body is a RIB body with a readable head.
-pub fn check_rib(body: &[u8], subtype: u16) -> Outcome
+#[tactic(auto, unfolding(crate::specs::Head::check_rib))]
+pub fn check_rib(body: &[u8], subtype: u16) -> Result<(), Refusal>
     ensures answer { outcome_number result ≡ check_rib body.now subtype }
 {
-    let l = layout_of(subtype);
-    if !l.carried {
-        return Outcome::Refused(Refusal::OtherSubtype);
-    }
+    let l = layout_of(subtype).ok_or(Refusal::OtherSubtype)?;
     if !is_readable(body, l.most) {
-        return Outcome::Refused(Refusal::BodyNotMet);
+        return Err(Refusal::BodyNotMet);
     }
-    Outcome::Accepted
+    Ok(())
 }
 
 // Whether the head fits in the body, with at most so many prefix bits.
+#[tactic(auto, unfolding(crate::specs::Head::readable, crate::specs::Head::entries_at, crate::specs::Head::bits_of))]
 fn is_readable(body: &[u8], most: u8) -> bool
     ensures { result ≡ readable most body.now }
 {
     let bits = octets::octet(body, 4);
-    if most < bits {
-        return false;
-    }
     let n = body.len();
-    if n < 7 {
-        return false;
-    }
-    prefix_size(bits) <= n - 7
+    bits <= most && 7 <= n && prefix_size(bits) <= n - 7
 }
 
 // How many octets hold so many bits.
+#[tactic(auto, unfolding(crate::specs::Layout::prefix_size))]
 pub fn prefix_size(bits: u8) -> usize
     ensures answer { result ≡ prefix_size bits }
+    ensures few { result ≤ 32 }
 {
-    (bits as usize + 7) / 8
+    (usize::from(bits) + 7) / 8
 }

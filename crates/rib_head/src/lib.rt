@@ -5,14 +5,13 @@ mod head;
 mod prefix;
 mod times;
 
-pub use head::{check_rib, layout_of, prefix_size};
+pub use head::{check_rib, layout_of, path_size, prefix_size};
 pub use prefix::clear_after;
 pub use times::age;
 
-// What a subtype decides: whether it is carried, the most prefix bits, how many octets a path number takes.
+// What a subtype that is carried decides: the most prefix bits, how many octets a path number takes.
 #[derive(Clone, Copy)]
 pub struct Layout {
-    pub carried: bool,
     pub most: u8,
     pub path: usize,
 }

@@ -8,6 +8,7 @@ use lib.ListN.{length, get_or, replicate, length-take, length-drop, length-repli
 use lib.Seq.{get_or-append-add}
 use lib.Dec.{ltb}
 use borrow.Author.Tests.{eq-eqb, ltb-true, ltb-false}
+use Rattle.std.specs.Prelude.{Ok, Err}
 use Rattle.answer.specs.Refusal.{number_of}
 use Rattle.answer.specs.declared.Refusal.{Refusal}
 use Rattle.answer.proofs.Refusals.{number_refusal}
@@ -21,25 +22,23 @@ use Rattle.rib_head.proofs.Heads.{met-within, met-bits}
 use Rattle.rib_head.proofs.Prefixes.{cleared_same}
 use Rattle.rib_entries.specs.Entry.{passed, read_count, first_of, cursor_values}
 use Rattle.rib_entries.specs.declared.Cursor.{Cursor}
-use Rattle.rib_entries.specs.declared.CursorAnswer.{CursorAnswer}
-use Rattle.rib_entries.specs.declared.CursorAnswer.TheVariants as cursor-answer
 use Rattle.rib_entries.proofs.Passing.{left_le}
 use Rattle.rib_entries.proofs.Steps.{first-refused, first-check, left-first, at_first}
 use Rattle.rib_read.specs.Rib.{no_rib, prefix_at, rib_of}
 
-module _ (s : List ℕ) (t : ℕ) (a : CursorAnswer) (said : cursor_values a ≡ first_of s t) where
-  pub rib_unmet : {r : Refusal} → a ≡ cursor-answer.Refused r → no_rib (number_of r) ≡ rib_of s t
+module _ (s : List ℕ) (t : ℕ) where
+  pub rib_unmet : (r : Refusal) → cursor_values (Err r) ≡ first_of s t → no_rib (number_of r) ≡ rib_of s t
   unfolding rib_of
-  rib_unmet {r} v = rw (← first-refused s t a said v, number_refusal r)
+  rib_unmet r said = rw (← first-refused s t r said, number_refusal r)
 
-  module _ {d : Cursor} (v : a ≡ cursor-answer.At d) where
+  module _ {d : Cursor} (said : cursor_values (Ok d) ≡ first_of s t) where
     -- what the passed entries leave, and the room that the head takes
     pub left-le-first : {c : Cursor} → c ≡ passed (path_size t) s d.at d.left → c.left ≤ d.left
     left-le-first q = rw q (left_le (path_size t) s d.at d.left)
 
     pub prefix-within : {b : ℕ} → b ≡ get_or s 4 0 → (b ≤ 128) × (5 + prefix_size b ≤ length s)
     unfolding entries_at bits_of
-    prefix-within e = rw e (met-bits s t (first-check s t a said v), omega (arith, met-within s t (first-check s t a said v)))
+    prefix-within e = rw e (met-bits s t (first-check s t said), omega (arith, met-within s t (first-check s t said)))
 
     -- the body, read
     pub rib-met : {c : Cursor} → c ≡ passed (path_size t) s d.at d.left → {q b : ℕ} {x : List ℕ}
@@ -55,7 +54,7 @@ module _ (s : List ℕ) (t : ℕ) (a : CursorAnswer) (said : cursor_values a ≡
           entries = d.at;
         } ≡ rib_of s t
     unfolding rib_of read_count bits_of
-    rib-met g q e x = rw (eq-eqb (check_rib s t) 0 (first-check s t a said v), g, x, e, q, left-first s t a said v, at_first s t a said v)
+    rib-met g q e x = rw (eq-eqb (check_rib s t) 0 (first-check s t said), g, x, e, q, left-first s t said, at_first s t said)
 
 -- octets and zeros after them
 pub get_or_padded : (l : List ℕ) (n i : ℕ) → get_or (l ++ replicate n 0) i 0 ≡ get_or l i 0

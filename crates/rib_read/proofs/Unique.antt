@@ -1,19 +1,19 @@
 -- An answer is known by what it says: two answers of which a definition says the same are equal.
-use mathlib.Core.Path.{◌≡◌, refl, ap}
-use Rattle.answer.proofs.Refusals.{outcome_unique}
+use mathlib.Core.Path.{◌≡◌, sym, ap}
+use Rattle.std.specs.Prelude.{Result, Ok, Err}
+use Rattle.answer.specs.declared.Refusal.{Refusal}
+use Rattle.answer.proofs.Refusals.{number-not-zero, number_unique}
 use Rattle.rib_read.specs.Rib.{Reading, rib_values}
 use Rattle.rib_read.specs.declared.Rib.{Rib}
 
-pub rib_unique : (a b : Rib) → rib_values a ≡ rib_values b → a ≡ b
-rib_unique a b q =
-    let o : a.outcome ≡ b.outcome = outcome_unique a.outcome b.outcome (ap (λ (x : Reading). x.number) q) in
-    rw (
-      o,
-      ap (λ (x : Reading). x.sequence) q,
-      ap (λ (x : Reading). x.bits) q,
-      ap (λ (x : Reading). x.prefix) q,
-      ap (λ (x : Reading). x.declared) q,
-      ap (λ (x : Reading). x.count) q,
-      ap (λ (x : Reading). x.entries) q,
-    )
-    refl
+-- the body that such numbers say
+rib_from : Reading → Rib
+rib_from x =
+    record { sequence = x.sequence; bits = x.bits; prefix = x.prefix; declared = x.declared; count = x.count; entries = x.entries }
+
+pub rib_unique : (a b : Result Rib Refusal) → rib_values a ≡ rib_values b → a ≡ b
+unfolding rib_from
+rib_unique (Ok x) (Ok y) q = ap (λ (z : Reading). Ok (rib_from z)) q
+rib_unique (Ok x) (Err r) q = absurd (number-not-zero r (ap (λ (z : Reading). z.number) (sym q)))
+rib_unique (Err r) (Ok y) q = absurd (number-not-zero r (ap (λ (z : Reading). z.number) q))
+rib_unique (Err r) (Err s) q = ap Err (number_unique r s (ap (λ (z : Reading). z.number) q))

@@ -1,7 +1,8 @@
 -- A RIB body (RFC 6396, 4.3.2): sequence 4, prefix bits 1, prefix octets, entry count 2, entries. 01, RIB bodies: a body whose last
 -- entries are missing is accepted, and the answer has both counts.
-use Rattle.std.specs.Prelude.{ℕ, List, cond, replicate, eqb}
-use Rattle.answer.specs.Refusal.{outcome_number}
+use Rattle.std.specs.Prelude.{ℕ, List, cond, replicate, eqb, Result, Ok, Err}
+use Rattle.answer.specs.Refusal.{number_of}
+use Rattle.answer.specs.declared.Refusal.{Refusal}
 use Rattle.octets.specs.Octets.{be_at, part}
 use Rattle.rib_head.specs.Layout.{prefix_size}
 use Rattle.rib_head.specs.Prefix.{cleared}
@@ -24,10 +25,10 @@ abbrev pub no_rib : ℕ → Reading
 no_rib n = record { number = n; sequence = 0; bits = 0; prefix = replicate 16 0; declared = 0; count = 0; entries = 0 }
 
 -- what an answer says
-abbrev pub rib_values : Rib → Reading
-rib_values r =
+abbrev pub rib_values : Result Rib Refusal → Reading
+rib_values (Ok r) =
     record {
-      number = outcome_number r.outcome;
+      number = 0;
       sequence = r.sequence;
       bits = r.bits;
       prefix = r.prefix;
@@ -35,6 +36,7 @@ rib_values r =
       count = r.count;
       entries = r.entries;
     }
+rib_values (Err r) = no_rib (number_of r)
 
 -- the prefix octets of the body s, in 16 octets
 unfoldable pub prefix_at : ℕ → List ℕ → List ℕ

@@ -3,12 +3,10 @@
 
 mod body;
 
-use answer::Outcome;
 pub use body::read_rib;
 
 #[derive(Clone, Copy)]
 pub struct Rib {
-    pub outcome: Outcome,
     pub sequence: u32,
     pub bits: u8,
     pub prefix: [u8; 16],

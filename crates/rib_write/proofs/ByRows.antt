@@ -7,26 +7,22 @@ use native.Mathlib.Nat.{add-zero, zero-add, sub-zero}
 use native.Mathlib.Omega.{arith}
 use lib.ListN.{length, take, drop, get_or, take-append-drop}
 use lib.Dec.{ltb, eqb}
-use borrow.Author.Tests.{le-leb, leb-true, lt-ltb, le-ltb, ltb-true, ltb-false, eq-eqb, ne_eqb, eqb-true, eqb-false}
-use Rattle.answer.specs.Refusal.{number_of, outcome_number}
-use Rattle.answer.specs.declared.Refusal.{Refusal}
-use Rattle.answer.specs.declared.Outcome.{Outcome}
-use Rattle.answer.specs.declared.Outcome.TheVariants as outcome
-use Rattle.answer.proofs.Refusals.{number_refusal}
+use borrow.Author.Tests.{le-leb, leb-true, le-ltb, ltb-true, ltb-false, eq-eqb, ne_eqb, eqb-true, eqb-false}
 use Rattle.octets.specs.Octets.{bytes_of, patch, part, Octets}
 use Rattle.octets.proofs.Numbers.{length_bytes}
 use Rattle.octets.proofs.Stores.{length-patch, patch_late}
 use Rattle.octets.proofs.Parts.{length_part, patch-rest}
 use Rattle.rib_write.specs.Layout.{entry_octets}
 use Rattle.rib_write.specs.Rows.{entry_in, attributes_in, askable, Rowing, no_row, one_more, builder_after, push_row, push_rows}
-use Rattle.rib_write.specs.Rows.{Rowed, rowed, unrowed, rows_values, push_entries}
+use Rattle.rib_write.specs.Rows.{rowed, rows_values}
 use Rattle.rib_write.specs.Steps.{size_in, taken, put_row, closed}
 use Rattle.rib_head.specs.Layout.{path_size}
-use Rattle.rib_write.specs.Push.{standing, Pushing, unpushed, unfit, added, push_after, push_entry}
+use Rattle.rib_write.specs.Push.{Pushing, unpushed, unfit, added, push_after, push_entry}
 use Rattle.rib_write.specs.declared.NewEntry.{NewEntry}
 use Rattle.rib_write.specs.declared.Builder.{Builder}
-use Rattle.rib_write.specs.declared.RowsAnswer.{RowsAnswer}
-use Rattle.rib_write.specs.declared.RowsAnswer.TheVariants.{Pushed}
+use Rattle.rib_write.specs.declared.Pushed.{Pushed}
+use Rattle.std.proofs.Common.{Option, Some, None}
+use Rattle.std.specs.Prelude.{Ok}
 use Rattle.rib_write.proofs.Sizes.{length-entry}
 use Rattle.rib_write.proofs.Answers.{fit_count}
 use Rattle.rib_write.proofs.Standing.{both, Stands, count-within, count-stored, stands_on}
@@ -139,39 +135,34 @@ module _ {rs : List ℕ} {at : ℕ} (buffer : List ℕ) (t : Asked rs at (length
 
 -- the row in the part s
 module _ (s : List ℕ) (p : ℕ) (rs : List ℕ) (at : ℕ) (buffer : List ℕ) where
-  pub put_refused : (Taken p rs at (length buffer) (length s) → ⊥) → (s, 0) ≡ put_row s p rs at buffer
+  pub put_refused : (Taken p rs at (length buffer) (length s) → ⊥) → (s, None) ≡ put_row s p rs at buffer
   unfolding put_row
   put_refused z = rw (taken_not p rs at (length buffer) (length s) z)
 
   pub put_taken : Taken p rs at (length buffer) (length s) → {u : List ℕ}
       → u ≡ patch s 0 (entry_octets p (entry_in rs at) (attributes_in rs at buffer))
-      → (u, 8 + p + size_in rs at) ≡ put_row s p rs at buffer
+      → (u, Some (8 + p + size_in rs at)) ≡ put_row s p rs at buffer
   unfolding put_row
   put_taken t e = rw (taken_so p rs at (length buffer) (length s) t, e)
 
   -- what the answer tells
-  module _ {u : List ℕ} {n : ℕ} (e : (u, n) ≡ put_row s p rs at buffer) where
-    pub put_none : n ≡ 0 → Taken p rs at (length buffer) (length s) → ⊥
+  pub put_none : {u : List ℕ} → (u, None) ≡ put_row s p rs at buffer → Taken p rs at (length buffer) (length s) → ⊥
+  put_none e t = let f = ap (λ (x : List ℕ × Option ℕ). x.1) (e ∙ sym (put_taken t refl)) in cc
+
+  module _ {u : List ℕ} {n : ℕ} (e : (u, Some n) ≡ put_row s p rs at buffer) where
+    pub put_holds : Taken p rs at (length buffer) (length s)
     unfolding put_row
-    put_none z t =
-        let f = rw (taken_so p rs at (length buffer) (length s) t) at e in
-        let g : n ≡ 8 + p + size_in rs at = ap (λ (x : List ℕ × ℕ). x.1) f in
-        omega arith
+    put_holds = by_test (taken p rs at (length buffer) (length s)) refl
+      where
+        by_test : (b : Bool) → taken p rs at (length buffer) (length s) ≡ b → Taken p rs at (length buffer) (length s)
+        by_test true f = taken_holds p rs at (length buffer) (length s) f
+        by_test false f = let g = ap (λ (x : List ℕ × Option ℕ). x.1) (rw f at e) in absurd (cc)
 
-    module _ (z : n ≡ 0 → ⊥) where
-      pub put_holds : Taken p rs at (length buffer) (length s)
-      unfolding put_row
-      put_holds = by_test (taken p rs at (length buffer) (length s)) refl
-        where
-          by_test : (b : Bool) → taken p rs at (length buffer) (length s) ≡ b → Taken p rs at (length buffer) (length s)
-          by_test true f = taken_holds p rs at (length buffer) (length s) f
-          by_test false f = absurd (z (ap (λ (x : List ℕ × ℕ). x.1) (rw f at e)))
+    pub put_octets : u ≡ patch s 0 (entry_octets p (entry_in rs at) (attributes_in rs at buffer))
+    put_octets = ap (λ (x : List ℕ × Option ℕ). x.0) (e ∙ sym (put_taken put_holds refl))
 
-      pub put_octets : u ≡ patch s 0 (entry_octets p (entry_in rs at) (attributes_in rs at buffer))
-      put_octets = ap (λ (x : List ℕ × ℕ). x.0) (e ∙ sym (put_taken put_holds refl))
-
-      pub put_size : n ≡ 8 + p + size_in rs at
-      put_size = ap (λ (x : List ℕ × ℕ). x.1) (e ∙ sym (put_taken put_holds refl))
+    pub put_size : n ≡ 8 + p + size_in rs at
+    put_size = let f = ap (λ (x : List ℕ × Option ℕ). x.1) (e ∙ sym (put_taken put_holds refl)) in cc
 
 -- one row where a builder stands
 module _ {s : List ℕ} {t : ℕ} {b : Builder} (w : Stands s t b) (rs : List ℕ) (at : ℕ) (buffer : List ℕ) where
@@ -287,7 +278,7 @@ rows_stop (suc k) s t b rs at buffer h z =
 
 -- the count is stored after the last one
 pub rows-closed : (s : List ℕ) (b : Builder) (len n : ℕ) {v : List ℕ} → v ≡ patch s b.at (bytes_of 2 (b.count + n))
-    → (v, Pushed (record { len = len; at = b.at; count = b.count + n }) n) ≡ closed s b len n
+    → (v, record { builder = record { len = len; at = b.at; count = b.count + n }; rows = n }) ≡ closed s b len n
 rows-closed s b len n e = rw e
 
 -- so many rows before others
@@ -375,20 +366,16 @@ module _ (t : ℕ) (b : Builder) (rs buffer before : List ℕ) where
         }
 
     -- no row more does
-    pub going_ends : {r : RowsAnswer} {u v : List ℕ} → (v, r) ≡ closed u b len (place / 5) → u ≡ out → Ended
-        → rows_values r v ≡ rowed (push_rows (length rs / 5) before t b rs 0 buffer)
+    pub going_ends : {r : Pushed} {u v : List ℕ} → (v, r) ≡ closed u b len (place / 5) → u ≡ out → Ended
+        → rows_values (Ok r) v ≡ rowed (push_rows (length rs / 5) before t b rs 0 buffer)
     going_ends {r} {u} {v} q o e =
         let k = g.placed in
         let n : place / 5 ≡ g.rows = omega arith in
         let z : g.rows ≡ g.rows + 0 = omega arith in
         let s = rw (o, n) at q in
-        ap (λ (x : List ℕ × RowsAnswer). rows_values x.1 x.0) s
+        ap (λ (x : List ℕ × Pushed). rows_values (Ok x.1) x.0) s
         ∙ ap (λ (m : ℕ). rowed (record { rows = m; builder = builder_of len g.rows; output = output_of out g.rows })) z
         ∙ ap rowed (ap (more_rows g.rows) (sym e) ∙ g.comes)
-
-    pub ends_same : {r : RowsAnswer} {u v : List ℕ} {n : ℕ} → (v, r) ≡ closed u b len n → u ≡ out → length v ≡ length before
-    ends_same {u = u} {n = n} q o =
-        ap (λ (x : List ℕ × RowsAnswer). length x.0) q ∙ length-patch u b.at (bytes_of 2 (b.count + n)) ∙ ap length o ∙ g.same
 
     -- all are in, or the body has as many entries as it may
     pub going_full : length rs % 5 ≡ 0 → min (length rs) (5 * (65535 - b.count)) ≤ place → Ended
@@ -403,55 +390,34 @@ module _ (t : ℕ) (b : Builder) (rs buffer before : List ℕ) where
         by_test false e = let k = g.placed in let l = ltb-false place (length rs) e in rows-over _ _ _ _ _ _ (omega arith)
 
     -- the part from the builder's end on, and what the row at the place has made of it
-    module _ {p n : ℕ} {u : List ℕ} (e : (u, n) ≡ put_row (part out len (length out - len)) p rs place buffer) (q : p ≡ path_size t) where
+    module _ {p : ℕ} (q : p ≡ path_size t) where
       length_rest : length (part out len (length out - len)) ≡ length (output_of out g.rows) - len
       length_rest = length_part out len (length out - len) (omega (arith, len-within)) ∙ rw length-output
 
       -- it is refused, and the output stays
-      module _ (z : n ≡ 0) where
+      module _ {u : List ℕ} (e : (u, None) ≡ put_row (part out len (length out - len)) p rs place buffer) where
         pub row-refused : Ended
         row-refused = rows_none _ _ _ _ _ _
-            (λ y. put_none _ _ _ _ _ e z (rw (q, length_rest) (row_fits g.stands rs place buffer y).1)) _
+            (λ y. put_none _ _ _ _ _ e (rw (q, length_rest) (row_fits g.stands rs place buffer y).1)) _
 
         pub row_stays : take len out ++ (u ++ drop (length out - len) (drop len out)) ≡ out
         row_stays =
-            let f = put_refused _ _ _ _ _ (put_none _ _ _ _ _ e z) in
-            let v : u ≡ part out len (length out - len) = ap (λ (x : List ℕ × ℕ). x.0) (e ∙ sym f) in
+            let f = put_refused _ _ _ _ _ (put_none _ _ _ _ _ e) in
+            let v : u ≡ part out len (length out - len) = ap (λ (x : List ℕ × Option ℕ). x.0) (e ∙ sym f) in
             rw (v, take-append-drop (length out - len) (drop len out)) (take-append-drop len out)
 
       -- it goes in
-      module _ (z : n ≡ 0 → ⊥) where
+      module _ {u : List ℕ} {n : ℕ} (e : (u, Some n) ≡ put_row (part out len (length out - len)) p rs place buffer) where
         pub row-taken : Fits
-        row-taken = rw (q, length_rest) at (put_holds _ _ _ _ _ e z)
+        row-taken = rw (q, length_rest) at (put_holds _ _ _ _ _ e)
 
         pub row-size : n ≡ 8 + path_size t + size_in rs place
-        row-size = put_size _ _ _ _ _ e z ∙ rw q
+        row-size = put_size _ _ _ _ _ e ∙ rw q
 
         pub row-fits_in : len + n ≤ length out
         row-fits_in = let r = row-taken.room in omega (arith, row-size, len-within, length-output)
 
         pub row-stored : take len out ++ (u ++ drop (length out - len) (drop len out)) ≡ patch out len new
         row-stored =
-            let v = rw q at (put_octets _ _ _ _ _ e z) in
+            let v = rw q at (put_octets _ _ _ _ _ e) in
             patch-rest out len 0 new len-within v ∙ ap (λ (k : ℕ). patch out k new) (add-zero len)
-
--- the call, by its tests
-module _ (s : List ℕ) (t : ℕ) (b : Builder) (rs buffer : List ℕ) where
-  pub rows_odd : (length rs % 5 ≡ 0 → ⊥) → unrowed 8 s ≡ push_entries s t b rs buffer
-  unfolding push_entries
-  rows_odd z = rw (ne_eqb _ 0 z)
-
-  module _ (z : length rs % 5 ≡ 0) where
-    pub rows_beyond : length s < b.len → unrowed 8 s ≡ push_entries s t b rs buffer
-    unfolding push_entries
-    rows_beyond h = rw (eq-eqb _ 0 z, lt-ltb (length s) b.len h)
-
-    module _ (h : b.len ≤ length s) (o : Outcome) (said : outcome_number o ≡ standing (take b.len s) t b) where
-      pub rows_unmet : {r : Refusal} → o ≡ outcome.Refused r → unrowed (number_of r) s ≡ push_entries s t b rs buffer
-      unfolding push_entries
-      rows_unmet {r} v = rw (eq-eqb _ 0 z, le-ltb (length s) b.len h, ← said, v, number_refusal r)
-
-      pub rows-met : o ≡ outcome.Accepted → {x : Rowed} → x ≡ rowed (push_rows (length rs / 5) s t b rs 0 buffer)
-          → x ≡ push_entries s t b rs buffer
-      unfolding push_entries
-      rows-met v q = rw (q, eq-eqb _ 0 z, le-ltb (length s) b.len h, ← said, v)

@@ -1,16 +1,15 @@
 -- Pushing an entry into a RIB body where a builder stands (01, RIB bodies): 8 for a length beyond the output, then 6, then 7 (a head that
 -- cannot be read, a builder that is none of this body), then 10 (the 65,536th entry, attributes above 65,535 octets, a path number
 -- where the subtype has none), then 9 for too little room. The entry goes straight after the body, and the count is raised.
-use Rattle.std.specs.Prelude.{ℕ, ◌+◌, ◌-◌, List, Bool, cond, not, ◌&&◌, ◌||◌, length, take, ltb, eqb}
+use Rattle.std.specs.Prelude.{ℕ, ◌+◌, ◌-◌, List, Bool, cond, not, ◌&&◌, ◌||◌, length, take, ltb, eqb, Result, Ok, Err}
 use Rattle.answer.specs.Refusal.{number_of}
+use Rattle.answer.specs.declared.Refusal.{Refusal}
 use Rattle.octets.specs.Octets.{bytes_of, patch}
 use Rattle.rib_head.specs.Layout.{path_size}
 use Rattle.rib_head.specs.Head.{count_at, declared, check_rib}
 use Rattle.rib_write.specs.Layout.{entry_octets}
 use Rattle.rib_write.specs.declared.NewEntry.{NewEntry}
 use Rattle.rib_write.specs.declared.Builder.{Builder}
-use Rattle.rib_write.specs.declared.BuilderAnswer.{BuilderAnswer}
-use Rattle.rib_write.specs.declared.BuilderAnswer.TheVariants.{Open, Refused}
 
 -- a value does not fit its field, in a body of so many entries: one entry more, m octets of attributes, the path number
 unfoldable pub unfit : ℕ → ℕ → ℕ → ℕ → Bool
@@ -33,9 +32,9 @@ abbrev pub unpushed : ℕ → List ℕ → Pushing
 unpushed n s = record { number = n; len = 0; at = 0; count = 0; output = s }
 
 -- what an answer says, with the output t that the call leaves
-abbrev pub pushed : BuilderAnswer → List ℕ → Pushing
-pushed (Open b) t = record { number = 0; len = b.len; at = b.at; count = b.count; output = t }
-pushed (Refused r) t = unpushed (number_of r) t
+abbrev pub pushed : Result Builder Refusal → List ℕ → Pushing
+pushed (Ok b) t = record { number = 0; len = b.len; at = b.at; count = b.count; output = t }
+pushed (Err r) t = unpushed (number_of r) t
 
 -- 0 where the builder b is one of the body s, as far as its head tells: the refusal of the head, then 7 where the count stands
 -- elsewhere or is another

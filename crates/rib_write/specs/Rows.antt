@@ -3,13 +3,14 @@
 -- another, as long as a push of each is accepted. Refusals are of the call: 8 for rows that are no whole number of rows and for a length
 -- beyond the output, then 6 and 7 for no builder of what stands there.
 use Rattle.std.specs.Prelude.{ℕ, zero, suc, ◌+◌, ◌-◌, ◌/◌, ◌%◌, List, Bool, ◌&&◌, cond, length, take, get_or, leb, ltb, eqb}
+use Rattle.std.specs.Prelude.{Result, Ok, Err}
 use Rattle.answer.specs.Refusal.{number_of}
+use Rattle.answer.specs.declared.Refusal.{Refusal}
 use Rattle.octets.specs.Octets.{part}
 use Rattle.rib_write.specs.Push.{Pushing, unpushed, standing, push_entry}
 use Rattle.rib_write.specs.declared.NewEntry.{NewEntry}
 use Rattle.rib_write.specs.declared.Builder.{Builder}
-use Rattle.rib_write.specs.declared.RowsAnswer.{RowsAnswer}
-use Rattle.rib_write.specs.declared.RowsAnswer.TheVariants.{Pushed, Refused}
+use Rattle.rib_write.specs.declared.Pushed.{Pushed}
 
 -- the entry of the row that starts at a place of rs
 abbrev pub entry_in : List ℕ → ℕ → NewEntry
@@ -81,9 +82,9 @@ rowed r =
     }
 
 -- what an answer says, with the output s that the call leaves
-abbrev pub rows_values : RowsAnswer → List ℕ → Rowed
-rows_values (Pushed b n) s = rowed (record { rows = n; builder = b; output = s })
-rows_values (Refused r) s = unrowed (number_of r) s
+abbrev pub rows_values : Result Pushed Refusal → List ℕ → Rowed
+rows_values (Ok p) s = rowed (record { rows = p.rows; builder = p.builder; output = s })
+rows_values (Err r) s = unrowed (number_of r) s
 
 -- the rows rs, their attributes in one buffer, where the builder b stands in the output s
 unfoldable pub push_entries : List ℕ → ℕ → Builder → List ℕ → List ℕ → Rowed

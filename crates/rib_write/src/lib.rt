@@ -4,7 +4,6 @@
 mod push;
 mod rows;
 
-use answer::Refusal;
 pub use push::push_entry;
 pub use rows::push_entries;
 
@@ -24,15 +23,9 @@ pub struct Builder {
     pub count: u16,
 }
 
+// How many rows went in, and the builder after them.
 #[derive(Clone, Copy)]
-pub enum BuilderAnswer {
-    Open(Builder),
-    Refused(Refusal),
-}
-
-#[derive(Clone, Copy)]
-pub enum RowsAnswer {
-    // How many rows went in, and the builder after them.
-    Pushed { builder: Builder, rows: u16 },
-    Refused(Refusal),
+pub struct Pushed {
+    pub builder: Builder,
+    pub rows: u16,
 }

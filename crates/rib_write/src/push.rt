@@ -6,45 +6,38 @@ ghost use Rattle.rib_write.specs.Layout.{entry_octets};
 ghost use Rattle.rib_write.specs.Push.{unfit, pushed, standing, push_after, push_entry};
 ghost use Rattle.rib_write.specs.Rows.{entry_in};
 
-use crate::{Builder, BuilderAnswer, NewEntry};
-use answer::{Outcome, Refusal};
+use crate::{Builder, NewEntry};
+use answer::Refusal;
 
 // One more entry where a builder stands. The entries before it are not looked at.
+#[tactic(auto, unfolding(crate::specs::Push::push_entry))]
 pub fn push_entry(
     out: &mut [u8],
     subtype: u16,
     b: Builder,
     e: NewEntry,
     attributes: &[u8],
-) -> BuilderAnswer
+) -> Result<Builder, Refusal>
     ensures answer { pushed result out.new ≡ push_entry out.old subtype b e attributes.now }
 {
     if out.len() < b.len {
-        return BuilderAnswer::Refused(Refusal::Beyond);
+        return Err(Refusal::Beyond);
     }
-    match check_builder(&out[..b.len], subtype, b) {
-        Outcome::Refused(r) => BuilderAnswer::Refused(r),
-        Outcome::Accepted => push_after(out, subtype, b, e, attributes),
-    }
+    check_builder(&out[..b.len], subtype, b)?;
+    push_after(out, subtype, b, e, attributes)
 }
 
 // Whether a builder is one of a body: the head can be read, and its count is where the builder has it, and the same.
-pub(crate) fn check_builder(body: &[u8], subtype: u16, b: Builder) -> Outcome
+#[tactic(auto, unfolding(crate::specs::Push::standing))]
+pub(crate) fn check_builder(body: &[u8], subtype: u16, b: Builder) -> Result<(), Refusal>
     ensures { outcome_number result ≡ standing body.now subtype b }
 {
-    match rib_head::check_rib(body, subtype) {
-        Outcome::Refused(r) => Outcome::Refused(r),
-        Outcome::Accepted => {
-            let at = 5 + rib_head::prefix_size(octets::octet(body, 4));
-            if b.at != at {
-                return Outcome::Refused(Refusal::BodyNotMet);
-            }
-            if b.count != octets::be16(body, at) {
-                return Outcome::Refused(Refusal::BodyNotMet);
-            }
-            Outcome::Accepted
-        }
+    rib_head::check_rib(body, subtype)?;
+    let at = 5 + rib_head::prefix_size(octets::octet(body, 4));
+    if b.at != at || b.count != octets::be16(body, at) {
+        return Err(Refusal::BodyNotMet);
     }
+    Ok(())
 }
 
 // One more entry after the octets of a builder's body.
@@ -54,7 +47,7 @@ fn push_after(
     b: Builder,
     e: NewEntry,
     attributes: &[u8],
-) -> BuilderAnswer
+) -> Result<Builder, Refusal>
     requires { b.len ≤ length out.old }
     ensures { pushed result out.new ≡ push_after out.old subtype b e attributes.now }
 {
@@ -62,39 +55,31 @@ fn push_after(
     let m = attributes.len();
     let len = b.len;
     if is_unfit(b.count, subtype, e.path, m) {
-        return BuilderAnswer::Refused(Refusal::TooLarge);
+        return Err(Refusal::TooLarge);
     }
-    let l = rib_head::layout_of(subtype);
-    let size = 8 + l.path + m;
+    let path = rib_head::path_size(subtype);
+    let size = 8 + path + m;
     if n - len < size {
-        return BuilderAnswer::Refused(Refusal::NoRoom);
+        return Err(Refusal::NoRoom);
     }
     let end = len + size;
+    let count = b.count + 1;
     let row = [e.peer as u64, e.originated as u64, e.path as u64];
-    put_entry(&mut out[len..end], l.path, &row, 0, attributes);
-    octets::put_be16(out, b.at, b.count + 1);
-    BuilderAnswer::Open(Builder {
+    put_entry(&mut out[len..end], path, &row, 0, attributes);
+    octets::put_be16(out, b.at, count);
+    Ok(Builder {
         len: end,
         at: b.at,
-        count: b.count + 1,
+        count,
     })
 }
 
 // Whether a value does not fit its field: one entry more, the path number, the attributes' length.
+#[tactic(auto, unfolding(crate::specs::Push::unfit))]
 fn is_unfit(count: u16, subtype: u16, path: u32, m: usize) -> bool
     ensures { result ≡ unfit count subtype path m }
 {
-    if count == 65535 {
-        return true;
-    }
-    if 65535 < m {
-        return true;
-    }
-    let l = rib_head::layout_of(subtype);
-    if l.path != 0 {
-        return false;
-    }
-    path != 0
+    count == 65535 || 65535 < m || (rib_head::path_size(subtype) == 0 && path != 0)
 }
 
 // The entry of the row at a place in the part that it fills, its path number in so many octets. The values are read between the stores,

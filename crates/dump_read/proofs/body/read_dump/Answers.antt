@@ -1,30 +1,21 @@
-use Prim.Native.Nat.{◌≤◌}
-use mathlib.Core.Path.{◌∙◌}
-use native.Mathlib.Omega.{arith}
-use Rattle.octets_address.proofs.Addresses.{address_le}
-use Rattle.dump_read.proofs.Bodies.{dump_unmet, front_there, dump-met}
+use mathlib.Core.Path.{sym, ◌∙◌}
+use Rattle.std.proofs.lemmas.Result.{err_from_is_err_and}
+use Rattle.dump_read.proofs.Bodies.{dump_unmet, size_there, front_there, dump-met}
 use Rattle.dump_read.proofs.body.read_dump.Goals as goal
 
-pub overflow_mul-start : goal.overflow_mul-start
-overflow_mul-start c =
-    let small : c.address_size-x.result ≤ 16 = rw c.address_size-x.ensures.answer (address_le _) in
-    let l = small in omega arith
+pub returns-in_err-check_dump : goal.returns-in_err-check_dump
+returns-in_err-check_dump c =
+    let p = err_from_is_err_and c.from_residual.result c.from_residual.ensures.1 in
+    rw (p.1, p.2) (record { answer = dump_unmet _ _ c.in_err-check_dump.field-0.0 c.in_err-check_dump.ensures.answer })
 
-pub overflow_add-start : goal.overflow_add-start
-overflow_add-start c =
-    let small : c.address_size-x.result ≤ 16 = rw c.address_size-x.ensures.answer (address_le _) in
-    let l = small in omega arith
+pub unwrap-x-requires : goal.unwrap-x-requires
+unwrap-x-requires c = size_there _ _ c.in_ok-check_dump.ensures.answer _ c.address_size.ensures.answer
 
 pub fields-requires : goal.fields-requires
 fields-requires c =
-    front_there _ _ _ c.check_dump.ensures.answer c.in-Accepted.is c.address_size-x.ensures.answer
+    front_there _ _ c.in_ok-check_dump.ensures.answer (sym c.unwrap-x.ensures ∙ c.address_size.ensures.answer)
 
-pub returns-in-Refused : goal.returns-in-Refused
-returns-in-Refused c = record { answer = c.refused.ensures ∙ dump_unmet _ _ _ c.check_dump.ensures.answer c.in-Refused.is }
-
-pub returns-in-Accepted : goal.returns-in-Accepted
-returns-in-Accepted c = record {
-  answer =
-      dump-met _ _ _ c.check_dump.ensures.answer c.in-Accepted.is c.address_size-x.ensures.answer
-      c.fields.ensures;
+pub returns : goal.returns
+returns c = record {
+  answer = dump-met _ _ c.in_ok-check_dump.ensures.answer (sym c.unwrap-x.ensures ∙ c.address_size.ensures.answer) c.fields.ensures;
 }

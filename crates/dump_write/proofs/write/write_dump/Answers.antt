@@ -1,71 +1,44 @@
-use Prim.Native.Nat.{◌≤◌}
-use mathlib.Core.Path.{◌≡◌}
 use native.Mathlib.Omega.{arith}
-use lib.ListN.{length}
-use lib.Dec.{eqb}
-use Rattle.octets_address.specs.Address.{size_of}
-use Rattle.octets_address.proofs.Addresses.{address_le, family_size}
-use Rattle.dump_write.proofs.Answers.{Fit, write_other, write_large, write_fit, write_full, write_done}
-use mathlib.Core.Bool.{not}
-use mathlib.Core.Path.{ap}
+use Rattle.std.proofs.lemmas.Result.{err_from_is_err_and}
+use Rattle.octets_address.proofs.Addresses.{found_size}
+use Rattle.dump_write.proofs.Answers.{write_other, large-bits, large_as, large_count, write_full, write_done}
 use Rattle.dump_write.proofs.write.write_dump.Goals as goal
 
-pub returns-then-x-eq0 : goal.returns-then-x-eq0
-returns-then-x-eq0 c = record { answer = write_other _ _ _ _ c.address_size-x.ensures.answer c.if-x-eq0.true }
+pub returns-in_default : goal.returns-in_default
+returns-in_default c = record { answer = write_other _ _ _ _ c.in_default.ensures.answer }
 
-pub is_fit-requires : goal.is_fit-requires
-is_fit-requires c = rw c.address_size-x.ensures.answer (address_le _)
+pub returns-then-x-d : goal.returns-then-x-d
+returns-then-x-d c = record { answer = large-bits _ _ _ _ c.in-Some.ensures.answer c.if-x-d.true }
 
-pub returns-then-not-is_fit : goal.returns-then-not-is_fit
-returns-then-not-is_fit c = record {
-  answer =
-      write_large _ _ _ _ c.address_size-x.ensures.answer c.if-x-eq0.false c.is_fit.ensures (ap not c.if-not-is_fit.true);
-}
+pub returns-in_err-asn : goal.returns-in_err-asn
+returns-in_err-asn c =
+    let p = err_from_is_err_and c.from_residual.result c.from_residual.ensures.1 in
+    rw (p.1, p.2) (record {
+      answer = large_as _ _ _ _ c.in-Some.ensures.answer c.if-x-d.false c.in_err-asn.field-0.0 c.in_err-asn.ensures;
+    })
 
-pub overflow_mul-start : goal.overflow_mul-start
-overflow_mul-start c =
-    let least : c.address_size-x.result ≤ 16 = rw c.address_size-x.ensures.answer (address_le _) in
-    let l = least in omega arith
-
-pub overflow_add-start : goal.overflow_add-start
-overflow_add-start c =
-    let least : c.address_size-x.result ≤ 16 = rw c.address_size-x.ensures.answer (address_le _) in
-    let l = least in omega arith
-
-pub overflow_add-start-2 : goal.overflow_add-start-2
-overflow_add-start-2 c =
-    let least : c.address_size-x.result ≤ 16 = rw c.address_size-x.ensures.answer (address_le _) in
-    let fit : Fit c.address_size-x.result c.args.d (length c.args.attributes.now) =
-    write_fit c.args.out.now _ _ c.args.attributes.now c.address_size-x.ensures.answer
-    c.if-x-eq0.false c.is_fit.ensures (ap not c.if-not-is_fit.false) in
-    let l = least in let f = fit.count in omega arith
+pub returns-in_err-count : goal.returns-in_err-count
+returns-in_err-count c =
+    let p = err_from_is_err_and c.from_residual-in_err-count.result c.from_residual-in_err-count.ensures.1 in
+    rw (p.1, p.2) (record {
+      answer =
+          large_count _ _ _ _ c.in-Some.ensures.answer c.if-x-d.false c.in_ok-asn.ensures c.in_err-count.field-0.0
+          c.in_err-count.ensures;
+    })
 
 pub returns-then-out-start : goal.returns-then-out-start
 returns-then-out-start c = record {
   answer =
-      write_full _ _ _ _ c.address_size-x.ensures.answer c.if-x-eq0.false c.is_fit.ensures (ap not c.if-not-is_fit.false)
-      c.if-out-start.true;
+      write_full _ _ _ _ c.in-Some.ensures.answer c.if-x-d.false c.in_ok-asn.ensures c.in_ok-count.ensures c.if-out-start.true;
 }
-
-pub overflow_cast-n : goal.overflow_cast-n
-overflow_cast-n c =
-    let fit : Fit c.address_size-x.result c.args.d (length c.args.attributes.now) =
-    write_fit c.args.out.now _ _ c.args.attributes.now c.address_size-x.ensures.answer
-    c.if-x-eq0.false c.is_fit.ensures (ap not c.if-not-is_fit.false) in
-    let f = fit.count in omega arith
 
 pub put_fields-requires : goal.put_fields-requires
 put_fields-requires c =
-    let fit : Fit c.address_size-x.result c.args.d (length c.args.attributes.now) =
-    write_fit c.args.out.now _ _ c.args.attributes.now c.address_size-x.ensures.answer
-    c.if-x-eq0.false c.is_fit.ensures (ap not c.if-not-is_fit.false) in
-    let long-is : size_of (eqb c.address_size-x.result 16) ≡ c.address_size-x.result =
-    family_size _ c.address_size-x.ensures.answer c.if-x-eq0.false in
-    (long-is, omega (arith, c.if-out-start.false), fit.asn)
+    (found_size _ c.in-Some.ensures.answer, omega (arith, c.if-out-start.false), c.in_ok-asn.ensures.0)
 
 pub returns : goal.returns
 returns c = record {
   answer =
-      write_done _ _ _ _ c.address_size-x.ensures.answer c.if-x-eq0.false c.is_fit.ensures (ap not c.if-not-is_fit.false)
-      c.if-out-start.false c.put_fields.ensures c.put_octets.ensures;
+      write_done _ _ _ _ c.in-Some.ensures.answer c.if-x-d.false c.in_ok-asn.ensures c.in_ok-count.ensures c.if-out-start.false
+      c.put_fields.ensures c.put_octets.ensures;
 }

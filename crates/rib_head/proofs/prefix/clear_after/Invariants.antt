@@ -1,12 +1,8 @@
-use Prim.Native.Nat.{◌≤◌, ◌-◌}
 use mathlib.Core.Path.{◌≡◌}
 use mathlib.Core.List.{◌++◌}
-use lib.ListN.{replicate}
+use lib.ListN.{drop}
 use Rattle.rib_head.specs.Prefix.{cleared}
 use Rattle.rib_head.proofs.prefix.clear_after.Given as goal
 
 abbrev pub invariant-loop-i : goal.invariant-loop-i
-invariant-loop-i l = (l.i ≤ 16) × (l.p ≡ cleared l.bits l.prefix l.i ++ replicate (16 - l.i) 0)
-
-abbrev pub decreases-loop-i : goal.decreases-loop-i
-decreases-loop-i l = 16 - l.i
+invariant-loop-i l = l.v-items ≡ cleared l.bits l.fn.prefix l.i ++ drop l.i l.fn.prefix

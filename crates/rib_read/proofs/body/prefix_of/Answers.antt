@@ -6,4 +6,4 @@ pub returns : goal.returns
 returns c =
     c.clear_after.ensures.answer
     ∙ prefix-stored _ _
-    c.requires.0 c.prefix_size-size.ensures.answer c.requires.1 c.put_octets.ensures
+    c.requires.0 c.prefix_size-end.ensures.answer c.requires.1 c.put_octets.ensures

@@ -4,5 +4,5 @@ use Rattle.rib_write.proofs.rows.most_path.Goals as goal
 pub returns-then-path-eq0 : goal.returns-then-path-eq0
 returns-then-path-eq0 c = rw (eq-eqb _ 0 c.if-path-eq0.true)
 
-pub returns : goal.returns
-returns c = rw (ne_eqb _ 0 c.if-path-eq0.false)
+pub returns-else-path-eq0 : goal.returns-else-path-eq0
+returns-else-path-eq0 c = rw (ne_eqb _ 0 c.if-path-eq0.false)
