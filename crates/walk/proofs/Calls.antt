@@ -38,17 +38,14 @@ module _ (s : List ℕ) (p r : ℕ) where
   unfound_window zero z l = absurd (z refl)
   unfound_window (suc w) z l = simp (le-leb (p + (suc w + 6)) (length s) l)
 
-  -- code compares what is left
-  module _ (l : p < length s) (window : ℕ) (z : window ≡ 0 → ⊥) where
-    pub unfound_near : length s - p < 6 → to_end ≡ over s (unfound p window r)
-    unfound_near m = unfound-gap window z (omega arith)
+  -- code compares what is left after six octets
+  module _ (l : p < length s) where
+    pub unfound-left : (window : ℕ) → length s - p - 6 < window → to_end ≡ over s (unfound p window r)
+    unfound-left window m = unfound-gap window (λ z. omega arith) (omega arith)
 
-    module _ (m : 6 ≤ length s - p) where
-      pub unfound-within : length s - p - 6 < window → to_end ≡ over s (unfound p window r)
-      unfound-within o = unfound-gap window z (omega arith)
-
-      pub unfound_full : window ≤ length s - p - 6 → shut window ≡ over s (unfound p window r)
-      unfound_full o = unfound_window window z (omega arith)
+    pub unfound_shut : (window : ℕ) → window ≤ length s - p - 6 → shut window ≡ over s (unfound p window r)
+    unfound_shut zero m = unfound-none zero refl
+    unfound_shut (suc w) m = unfound_window (suc w) (λ z. omega arith) (omega arith)
 
 module _ (judge : ℕ → Ask Judged) (candidate : ℕ → Ask Candidate) (s : List ℕ) (window k : ℕ) where
   -- a call on a walk over the whole stream

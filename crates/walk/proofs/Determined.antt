@@ -50,10 +50,10 @@ module _ (judge : ℕ → Ask Judged) (candidate : ℕ → Ask Candidate) (sound
 
     -- a record that passes is neither refused nor scanned for
     fit-off : (p r e : ℕ) (f : Framing) → over s (judge p) ≡ fit f → Off judge s p r e → ⊥
-    fit-off p r e f q x = let z : ◌≡◌ {A = ℕ} 0 1 = let w = x.judged in cc in omega arith
+    fit-off p r e f q x = let w = x.judged in cc
 
     fit-scans : (p r : ℕ) (f : Framing) → over s (judge p) ≡ fit f → Scans judge s k p r → ⊥
-    fit-scans p r f q (unframed c l h) = let z : ◌≡◌ {A = ℕ} 0 1 = cc in omega arith
+    fit-scans p r f q (unframed c l h) = cc
     fit-scans p r f q (unconfirmed e x n) = fit-off p r e f q x
 
     -- a record is refused with one number, and has one end
@@ -66,13 +66,13 @@ module _ (judge : ℕ → Ask Judged) (candidate : ℕ → Ask Candidate) (sound
 
     scans_unique : (p r q : ℕ) → Scans judge s k p r → Scans judge s k p q → r ≡ q
     scans_unique p r q (unframed x l h) (unframed y m i) = let w : cut r ≡ cut q = sym x ∙ y in let z : r ≡ q = cc in z
-    scans_unique p r q (unframed x l h) (unconfirmed e y n) = absurd (let z : ◌≡◌ {A = ℕ} 0 1 = let w = y.judged in cc in omega arith)
-    scans_unique p r q (unconfirmed e x n) (unframed y l h) = absurd (let z : ◌≡◌ {A = ℕ} 0 1 = let w = x.judged in cc in omega arith)
+    scans_unique p r q (unframed x l h) (unconfirmed e y n) = let w = y.judged in cc
+    scans_unique p r q (unconfirmed e x n) (unframed y l h) = let w = x.judged in cc
     scans_unique p r q (unconfirmed e x n) (unconfirmed d y m) = (off_unique p r e q d x y).0
 
     -- where the own end is taken, nothing is scanned
     own-scans : (p r e c q : ℕ) → Off judge s p r e → Confirms judge s k e c → Scans judge s k p q → ⊥
-    own-scans p r e c q x y (unframed z l h) = let a : ◌≡◌ {A = ℕ} 0 1 = let w = x.judged in cc in omega arith
+    own-scans p r e c q x y (unframed z l h) = let w = x.judged in cc
     own-scans p r e c q x y (unconfirmed d z n) =
         let i : e ≡ d = (off_unique p r e q d x z).1 in
         n c (rw i at y)

@@ -29,7 +29,7 @@ module _ (candidate : ℕ → Ask Candidate) (s : List ℕ) where
       by_candidate : (c : Candidate) → over s (candidate p) ≡ c → over s (when_stands (row_from candidate n v) (done broken) c) ≡ whole u
           → ((e : ℕ) → over s (row_from candidate n v e) ≡ whole u → RowAt candidate s n e) → RowAt candidate s (suc n) p
       by_candidate (stands w e) q h ih = (w, e, q, ih e h)
-      by_candidate fails q h ih = absurd (let z : ◌≡◌ {A = ℕ} 0 1 = cc in omega arith)
+      by_candidate fails q h ih = cc
 
   -- and a row is found
   of_row : (n v p : ℕ) → RowAt candidate s n p → over s (row_from candidate n v p) ≡ whole v
@@ -43,14 +43,14 @@ module _ (candidate : ℕ → Ask Candidate) (s : List ℕ) where
     where
       by_candidate : (c : Candidate) → over s (candidate p) ≡ c → over s (row_on candidate n c) ≡ whole v → RowAt candidate s (suc n) p
       by_candidate (stands w e) q h = (w, e, q, row_of n w e v h)
-      by_candidate fails q h = absurd (let z : ◌≡◌ {A = ℕ} 0 1 = cc in omega arith)
+      by_candidate fails q h = cc
 
   pub at_row : (n p : ℕ) (r : RowAt candidate s (suc n) p) → row_here n p ≡ whole r.0
   unfolding row row_on
   at_row n p r = over_bind s _ (candidate p) ∙ rw r.2 (of_row n r.0 r.1 r.3)
 
   pub no_row : (n p : ℕ) → row_here n p ≡ broken → ¬ RowAt candidate s (suc n) p
-  no_row n p h r = let q = at_row n p r in let z : ◌≡◌ {A = ℕ} 0 1 = cc in omega arith
+  no_row n p h r = let q = at_row n p r in cc
 
   -- the least of the d offsets from p on
   pub record Least (n p d o v : ℕ) : Type 0 where
@@ -73,7 +73,7 @@ module _ (candidate : ℕ → Ask Candidate) (s : List ℕ) where
 
   pub scan-found : (n d p o v : ℕ) → scan_here n p d ≡ found o v → Least n p d o v
   unfolding scan over when_whole
-  scan-found n zero p o v h = absurd (let z : ◌≡◌ {A = ℕ} 0 1 = cc in omega arith)
+  scan-found n zero p o v h = cc
   scan-found n (suc d) p o v h = by_row (row_here n p) refl (rw (over_bind s _ (row candidate n p)) at h) (scan-found n d (suc p) o v)
     where
       by_row : (r : Row) → row_here n p ≡ r → over s (scan_from n p d r) ≡ found o v
@@ -99,5 +99,5 @@ module _ (candidate : ℕ → Ask Candidate) (s : List ℕ) where
       by_row : (r : Row) → row_here n p ≡ r → over s (scan_from n p d r) ≡ nowhere
           → (scan_here n (suc p) d ≡ nowhere → (u : ℕ) → suc p ≤ u → u < suc p + d → row_here n u ≡ broken)
           → row_here n q ≡ broken
-      by_row (whole w) e h ih = absurd (let z : ◌≡◌ {A = ℕ} 0 1 = cc in omega arith)
+      by_row (whole w) e h ih = cc
       by_row broken e h ih = broken_from n p q e (λ i. ih h q i (omega arith)) a

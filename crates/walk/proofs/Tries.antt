@@ -55,8 +55,8 @@ module _ (judge : ℕ → Ask Judged) (candidate : ℕ → Ask Candidate) (sound
             most = omega arith;
             short = λ h. t.short (omega arith);
           }
-      by_judged (off r e) u q ih = absurd (let z : ◌≡◌ {A = ℕ} 0 1 = cc in omega arith)
-      by_judged (cut r) u q ih = absurd (let z : ◌≡◌ {A = ℕ} 0 1 = cc in omega arith)
+      by_judged (off r e) u q ih = cc
+      by_judged (cut r) u q ih = cc
 
       by_test : (t : Bool) → leb (suc p) (length s) ≡ t
           → cond t (over s (judge p >>= when_fit (aligned judge n (suc m)) (done failed))) (passed m) ≡ passed c
@@ -78,7 +78,7 @@ module _ (judge : ℕ → Ask Judged) (candidate : ℕ → Ask Candidate) (sound
   pub fails_runs : (n m p c e : ℕ) → p ≤ length s → over s (aligned judge n m p) ≡ failed → RunTo judge s c p e → c ≤ n
       → (c < n → e ≡ length s) → ⊥
   unfolding aligned over when_fit
-  fails_runs zero m p c e l q r u h = absurd (let z : ◌≡◌ {A = ℕ} 0 1 = cc in omega arith)
+  fails_runs zero m p c e l q r u h = cc
   fails_runs (suc n) m p c e l q r u h = by_test (leb (suc p) (length s)) refl q c r u h (λ (d b : ℕ). fails_runs n (suc m) b d e)
     where
       by_judged : (j : Judged) → over s (judge p) ≡ j → over s (when_fit (aligned judge n (suc m)) (done failed) j) ≡ failed
@@ -89,8 +89,8 @@ module _ (judge : ℕ → Ask Judged) (candidate : ℕ → Ask Candidate) (sound
       by_judged (fit f) v q a (suc d) r u h ih =
           let g : r.0 ≡ f = fit_unique r.0 f (sym r.1 ∙ v) in
           ih d f.end (sound.fits s p f v).1 q (rw g at r.2) (omega arith) (λ i. h (omega arith))
-      by_judged (off x y) v q a (suc d) r u h ih = let z : ◌≡◌ {A = ℕ} 0 1 = let w = r.1 in cc in omega arith
-      by_judged (cut x) v q a (suc d) r u h ih = let z : ◌≡◌ {A = ℕ} 0 1 = let w = r.1 in cc in omega arith
+      by_judged (off x y) v q a (suc d) r u h ih = let w = r.1 in cc
+      by_judged (cut x) v q a (suc d) r u h ih = let w = r.1 in cc
 
       by_test : (t : Bool) → leb (suc p) (length s) ≡ t
           → cond t (over s (judge p >>= when_fit (aligned judge n (suc m)) (done failed))) (passed m) ≡ failed
@@ -99,7 +99,7 @@ module _ (judge : ℕ → Ask Judged) (candidate : ℕ → Ask Candidate) (sound
           → (d < n → e ≡ length s) → ⊥) → ⊥
       by_test true t q c r u h ih =
           by_judged (over s (judge p)) refl (rw (over_bind s _ (judge p)) at q) (leb-true _ _ t) c r u h ih
-      by_test false t q c r u h ih = let z : ◌≡◌ {A = ℕ} 0 1 = cc in omega arith
+      by_test false t q c r u h ih = cc
 
   -- a try that fails confirms nothing
   pub tried_nothing : (k p : ℕ) → p ≤ length s → over s (aligned judge (asked k) 0 p) ≡ failed → (c : ℕ) → ¬ Confirms judge s k p c

@@ -201,7 +201,7 @@ module _ (judge : ℕ → Ask Judged) (candidate : ℕ → Ask Candidate) (sound
 no_gap : (n c : ℕ) (l : List Answer) → Follows n c l → NoGap l
 no_gap n c [] h = tt
 no_gap n c (handed a f ∷ l) h = tt
-no_gap n zero (gap a e r v d ∷ l) h = let z : ◌≡◌ {A = ℕ} 0 1 = cc in omega arith
+no_gap n zero (gap a e r v d ∷ l) h = cc
 no_gap n (suc c) (gap a e r v d ∷ l) h = h
 no_gap n c (end a ∷ l) h = tt
 no_gap n c (refused x a w r ∷ l) h = tt

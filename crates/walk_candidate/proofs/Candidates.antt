@@ -1,12 +1,12 @@
 -- The candidate test in each of its cases, and that a candidate is a record that passes.
 use Prim.Native.Nat.{ℕ, ◌+◌, ◌*◌, ◌<◌, ◌≤◌}
 use mathlib.Core.Path.{◌≡◌, refl, sym, ◌∙◌, ap}
-use mathlib.Core.Bool.{Bool, true, false, ◌&&◌, and-true, and-false, not, cond}
+use mathlib.Core.Bool.{Bool, true, false, ◌&&◌, and-false, cond}
 use mathlib.Core.List.{List}
 use native.Mathlib.Omega.{arith}
 use lib.ListN.{length, drop, get_or}
 use lib.Dec.{leb, eqb}
-use borrow.Author.Tests.{lt-leb, le-leb, lt-ltb, le-ltb, leb-true, leb-false, ne_eqb, eqb-true}
+use borrow.Author.Tests.{lt-leb, le-ltb, leb-true, leb-false, ne_eqb, eqb-true}
 use Rattle.octets.specs.Octets.{be_at}
 use Rattle.octets.proofs.Numbers.{be_drop, be_halves, be_one}
 use Rattle.rules.specs.Ask.{done, ◌>>=◌, over, past}
@@ -15,7 +15,7 @@ use Rattle.header.specs.Read.{Heading, refused, accepted, header, header_at}
 use Rattle.header.specs.Frame.{Framing, framed, frame}
 use Rattle.header.proofs.Reading.{header-kind, header-stored}
 use Rattle.header.proofs.Framing.{read_within}
-use Rattle.walk_checks.specs.Bgp4mp.{as_size, state_change}
+use Rattle.walk_checks.specs.Bgp4mp.{state_change}
 use Rattle.walk.specs.Judged.{Judged, fit, off, cut, stands, fails}
 use Rattle.walk.proofs.Sound.{Sound}
 use Rattle.walk_judge.specs.Record.{verdict, judge, judge_at}
@@ -30,10 +30,6 @@ module _ (u : ℕ) where
   pub evidence_states : state_change u ≡ true → 3 ≡ evidence u
   unfolding evidence
   evidence_states e = simp e
-
-  pub evidence_marker : state_change u ≡ false → 2 ≡ evidence u
-  unfolding evidence
-  evidence_marker e = simp e
 
   evidence_between : (2 ≤ evidence u) × (evidence u ≤ 3)
   unfolding evidence
@@ -68,15 +64,6 @@ module _ (k u n us : ℕ) where
   pub plausible-long : 65599 < n → false ≡ plausible k u n us
   unfolding plausible
   plausible-long l = simp (lt-leb n 65599 l, and-false)
-
-  -- nor such microseconds
-  pub plausible_late : 1000000 ≤ us → false ≡ plausible k u n us
-  unfolding plausible
-  plausible_late m = simp (le-ltb us 1000000 m, and-false)
-
-  pub plausible-rest : taken_up k ≡ true → n ≤ 65599 → us < 1000000 → not (eqb (as_size u) 0) ≡ plausible k u n us
-  unfolding plausible
-  plausible-rest e l m = simp (e, le-leb _ _ l, lt-ltb _ _ m, and-true)
 
 -- whether a header may begin a candidate
 abbrev plausible-head : Heading → Bool
@@ -205,11 +192,11 @@ candidate-accepted s p v e q = by_place (leb p (length s)) refl
   where
     by_judged : p ≤ length s → (j : Judged) → over (drop p s) (judge p) ≡ j → (t : Bool) → cond t (standing j) fails ≡ stands v e
         → Accepted s p v e
-    by_judged l (off r x) z true q = absurd (let y : ◌≡◌ {A = ℕ} 0 1 = cc in omega arith)
-    by_judged l (cut r) z true q = absurd (let y : ◌≡◌ {A = ℕ} 0 1 = cc in omega arith)
-    by_judged l (off r x) z false q = absurd (let y : ◌≡◌ {A = ℕ} 0 1 = cc in omega arith)
-    by_judged l (cut r) z false q = absurd (let y : ◌≡◌ {A = ℕ} 0 1 = cc in omega arith)
-    by_judged l (fit g) z false q = absurd (let y : ◌≡◌ {A = ℕ} 0 1 = cc in omega arith)
+    by_judged l (off r x) z true q = cc
+    by_judged l (cut r) z true q = cc
+    by_judged l (off r x) z false q = cc
+    by_judged l (cut r) z false q = cc
+    by_judged l (fit g) z false q = cc
     by_judged l (fit g) z true q =
         let x : g.end ≡ e = cc in
         let w : evidence g.head.subtype ≡ v = cc in
@@ -224,7 +211,7 @@ candidate-accepted s p v e q = by_place (leb p (length s)) refl
     by_place false t =
         let m : length s < p = leb-false _ _ t in
         let z = candidate_near s p (omega arith) in
-        absurd (let y : ◌≡◌ {A = ℕ} 0 1 = cc in omega arith)
+        cc
 
 -- the walk may rest on this judgement
 pub sound : Sound judge_at candidate_at

@@ -1,15 +1,15 @@
 -- What a scan may take up (01, Walk, confirmation, scan; 02, wish 14): a record of type 16 or 17 that passes all checks, with a
 -- stored length of at most 65,599 and microseconds below 1,000,000. After 1, 2 and 3 its header decides all that it can, and only
 -- then are its body's octets asked for.
-use Rattle.std.specs.Prelude.{ℕ, Bool, ◌&&◌, ◌||◌, not, cond, leb, ltb, eqb}
+use Rattle.std.specs.Prelude.{ℕ, Bool, ◌&&◌, ◌||◌, not, cond, leb, ltb, eqb, Option, Some, None}
 use Rattle.rules.specs.Ask.{Ask, done, ◌>>=◌, past}
 use Rattle.header.specs.Read.{Heading, header}
 use Rattle.header.specs.Frame.{framed}
 use Rattle.walk_checks.specs.Bgp4mp.{as_size, state_change}
+use Rattle.walk.specs.Evidence.{evidence_number}
 use Rattle.walk.specs.Judged.{Judged, fit, off, cut, Candidate, stands, fails}
 use Rattle.walk_judge.specs.Record.{verdict}
-use Rattle.walk_candidate.specs.declared.CandidateAnswer.{CandidateAnswer}
-use Rattle.walk_candidate.specs.declared.CandidateAnswer.TheVariants.{Stands, Fails}
+use Rattle.walk_candidate.specs.declared.Standing.{Standing}
 
 -- the types that a scan takes up on
 unfoldable pub taken_up : ℕ → Bool
@@ -45,6 +45,6 @@ unfoldable pub candidate_at : ℕ → Ask Candidate
 candidate_at p = past p (candidate p)
 
 -- what each answer says
-abbrev pub candidacy : CandidateAnswer → Candidate
-candidacy (Stands v e) = stands v e
-candidacy Fails = fails
+abbrev pub candidacy : Option Standing → Candidate
+candidacy (Some x) = stands (evidence_number x.evidence) x.end
+candidacy None = fails

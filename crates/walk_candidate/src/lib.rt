@@ -4,10 +4,11 @@
 mod candidate;
 
 pub use candidate::candidate_at;
+use walk::Evidence;
 
-#[derive(Clone, Copy)]
-pub enum CandidateAnswer {
-    // A record that a scan may take up.
-    Stands { evidence: u8, end: usize },
-    Fails,
+// A record that a scan may take up: by what evidence, and where it ends.
+#[derive(Clone, Copy, PartialEq, Eq)]
+pub struct Standing {
+    pub evidence: Evidence,
+    pub end: usize,
 }

@@ -9,7 +9,7 @@ use lib.Dec.{eqb, leb}
 use borrow.Author.Tests.{leb-true, eqb-true}
 use Rattle.octets.specs.Octets.{be_at, ones, Octets}
 use Rattle.octets_address.specs.Address.{address_size}
-use Rattle.octets_address.proofs.Addresses.{address_le}
+use Rattle.octets_address.proofs.Addresses.{address_le, nonzero_some, nonzero_none}
 use Rattle.walk_checks.specs.Within.{within}
 use Rattle.walk_checks.specs.Message.{message_bounds, message}
 use Rattle.walk_checks.specs.declared.Bounds.{Bounds}
@@ -54,9 +54,12 @@ get_or_most m [] i h = omega arith
 get_or_most m (x ∷ l) zero h = leb-true x m (first (leb x m) (up_to m l) h)
 get_or_most m (x ∷ l) (suc i) h = get_or_most m l i (second (leb x m) (up_to m l) h)
 
-as_most : (u : ℕ) → as_size u ≤ 4
+pub as_most : (u : ℕ) → as_size u ≤ 4
 unfolding as_size as_sizes up_to
 as_most u = get_or_most 4 as_sizes u refl
+
+-- the octets of an AS number and of an address: how many they are at most, and that none are 0
+pub ruleset sizes = (as_most, address_le, nonzero_some, nonzero_none)
 
 -- whatever the bounds of a message are, as long as none is above m
 module _ (m : ℕ) (states : 4 ≤ m) (most : (t : ℕ) → (message_bounds t).high ≤ m) where

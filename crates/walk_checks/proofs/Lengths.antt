@@ -1,13 +1,31 @@
--- Rows of two numbers as bounds, and the cases of type 5.
+-- A table of rows, read by number, for any rows; and bounds as rows of two numbers.
 use Prim.Native.Nat.{ℕ, zero, suc, ◌<◌, ◌≤◌}
-use mathlib.Core.Path.{◌≡◌, refl, sym, ap}
+use mathlib.Core.Path.{◌≡◌, refl, sym, ◌∙◌, ap}
 use mathlib.Core.List.{List, [], ◌∷◌, map}
 use native.Mathlib.Omega.{arith}
-use lib.ListN.{length, get_or, get_or-eq_default}
-use borrow.Author.Tests.{lt-ltb, le-ltb, le-leb, lt-leb}
+use lib.ListN.{length, get_or, get_or-map, get_or-eq_default}
+use denote.Ref.{Bor}
+use Rattle.std.specs.Prelude.{Option, Some, None, unwrap_or}
+use Rattle.std.specs.Option.{option_map, option_copied, option_flatten}
+use Rattle.std.specs.Slice.{IsItemAt}
 use Rattle.walk_checks.specs.Within.{from_to, none}
-use Rattle.walk_checks.specs.Legacy.{legacy_bounds, legacy}
 use Rattle.walk_checks.specs.declared.Bounds.{Bounds}
+
+now_or : {X : Type 0} (r : Option (Bor X)) (d : X) → unwrap_or (option_copied r) d
+    ≡ unwrap_or (option_map (λ (x : Bor X). x.now) r) d
+now_or None d = refl
+now_or (Some x) d = refl
+
+-- f says each row as code has it, and what code has beyond the rows
+module _ {X Y : Type 0} (f : Y → X) (rows : List Y) (d : Y) where
+  pub row_read : {a : X} {b : Option X} (r : Option (Bor X)) {u v : ℕ} → a ≡ unwrap_or b (f d) → b ≡ option_copied r
+      → u ≡ v → IsItemAt (map f rows) u r → a ≡ f (get_or rows v d)
+  row_read r {u} p q e i =
+      p ∙ ap (λ (o : Option X). unwrap_or o (f d)) q ∙ rw (← e) (now_or r (f d) ∙ i.4 (omega arith) (f d) ∙ get_or-map f rows u d)
+
+pub flat : {X : Type 0} (o : Option (Option X)) → option_flatten o ≡ unwrap_or o None
+flat None = refl
+flat (Some x) = refl
 
 -- bounds as a row
 abbrev pub pair : Bounds → List ℕ
@@ -24,21 +42,3 @@ row_at (b ∷ bs) (suc u) h = row_at bs u (omega arith)
 
 pub row_beyond : (bs : List Bounds) (u : ℕ) → length bs ≤ u → pair none ≡ pair (get_or bs u none)
 row_beyond bs u h = ap pair (sym (get_or-eq_default bs none h))
-
-module _ (u n : ℕ) (b : Bounds) (e : b ≡ legacy_bounds u) where
-  pub legacy_other : b.high < b.low → 6 ≡ legacy u n
-  unfolding legacy
-  legacy_other h = simp (← e, lt-ltb _ _ h)
-
-  module _ (h : b.low ≤ b.high) where
-    pub legacy_short : n < b.low → 7 ≡ legacy u n
-    unfolding legacy
-    legacy_short l = simp (← e, le-ltb _ _ h, lt-leb _ _ l)
-
-    pub legacy-long : b.low ≤ n → b.high < n → 7 ≡ legacy u n
-    unfolding legacy
-    legacy-long l m = simp (← e, le-ltb _ _ h, le-leb _ _ l, lt-leb _ _ m)
-
-    pub legacy-met : b.low ≤ n → n ≤ b.high → 0 ≡ legacy u n
-    unfolding legacy
-    legacy-met l m = simp (← e, le-ltb _ _ h, le-leb _ _ l, le-leb _ _ m)

@@ -1,6 +1,4 @@
--- Lengths, Messages, Envelopes: what the definitions of specs/ are in each of their cases, over plain numbers.
--- Largest: the largest body that passes.
+-- Lengths: a table of rows, read by number. Messages: the marker as four numbers. Largest: the largest body that passes.
 pub mod Lengths
 pub mod Messages
-pub mod Envelopes
 pub mod Largest

@@ -1,5 +1,5 @@
 -- A length between two bounds (01, Body checks).
-use Rattle.std.specs.Prelude.{ℕ, Bool, ◌&&◌, cond, leb}
+use Rattle.std.specs.Prelude.{ℕ, Bool, ◌&&◌, cond, leb, ltb, Option, Some, None}
 use Rattle.walk_checks.specs.declared.Bounds.{Bounds}
 
 abbrev pub from_to : ℕ → ℕ → Bounds
@@ -8,6 +8,10 @@ from_to low high = record { low = low; high = high }
 -- the range that lets nothing through
 abbrev pub none : Bounds
 none = from_to 1 0
+
+-- bounds as code has them, where they let something through
+abbrev pub offered : Bounds → Option Bounds
+offered b = cond (ltb b.high b.low) None (Some b)
 
 -- n lies in the range
 abbrev pub within : Bounds → ℕ → Bool

@@ -4,24 +4,22 @@ ghost use Rattle.answer.specs.Refusal.{outcome_number};
 ghost use Rattle.walk_checks.specs.Legacy.{legacy_bounds, legacy};
 
 use crate::Bounds;
-use answer::{Outcome, Refusal};
+use answer::Refusal;
 use header::StoredLength;
 
 // The octets of the body are not looked at.
-pub fn check_legacy(subtype: u16, stored: StoredLength) -> Outcome
+#[tactic(auto, unfolding(crate::specs::Legacy::legacy))]
+pub fn check_legacy(subtype: u16, stored: StoredLength) -> Result<(), Refusal>
     ensures answer { outcome_number result ≡ legacy subtype stored.0 }
 {
     let b = legacy_bounds(subtype);
     if b.high < b.low {
-        return Outcome::Refused(Refusal::OtherSubtype);
+        return Err(Refusal::OtherSubtype);
     }
-    if stored.0 < b.low {
-        return Outcome::Refused(Refusal::BodyNotMet);
+    if !b.hold(stored.0) {
+        return Err(Refusal::BodyNotMet);
     }
-    if b.high < stored.0 {
-        return Outcome::Refused(Refusal::BodyNotMet);
-    }
-    Outcome::Accepted
+    Ok(())
 }
 
 // The empty range: low above high.
@@ -42,12 +40,7 @@ const LEGACY_BOUNDS: [[u32; 2]; 8] = [
 fn legacy_bounds(subtype: u16) -> Bounds
     ensures { result ≡ legacy_bounds subtype }
 {
-    let u = subtype as usize;
-    let mut row = NONE;
-    if u < LEGACY_BOUNDS.len() {
-        row = LEGACY_BOUNDS[u];
-    }
-    let low = row[0];
-    let high = row[1];
+    let row = LEGACY_BOUNDS.get(usize::from(subtype)).copied();
+    let [low, high] = row.unwrap_or(NONE);
     Bounds { low, high }
 }

@@ -30,10 +30,6 @@ module _ (u : ℕ) (b : List ℕ) where
   dump-peers e = simp (eq-eqb _ _ e)
 
   module _ (k n : ℕ) where
-    pub check-legacy : k ≡ 5 → legacy u n ≡ check k u n b
-    unfolding check check_of carried known
-    check-legacy e = rw e
-
     pub check-dump : k ≡ 12 → check_dump b u ≡ check k u n b
     unfolding check check_of carried known
     check-dump e = rw e
@@ -56,10 +52,6 @@ module _ (u : ℕ) (b : List ℕ) where
         by_test : (t : Bool) → eqb k 16 ≡ t → bgp4mp u b ≡ check k u n b
         by_test true e = check_plain (eqb-true k 16 e)
         by_test false e = let d : k ≡ 16 → ⊥ = eqb-false k 16 e in check-extended (omega arith)
-
-    pub check-rest : (k ≡ 5 → ⊥) → (k ≡ 12 → ⊥) → (k ≡ 13 → ⊥) → (k ≡ 16 → ⊥) → (k ≡ 17 → ⊥) → cond (known k) 5 2 ≡ check k u n b
-    unfolding check carried
-    check-rest a c d e f = simp (ne_eqb _ _ a, ne_eqb _ _ c, ne_eqb _ _ d, ne_eqb _ _ e, ne_eqb _ _ f)
 
 -- a number that the check of a carried type may have: 0, 6 or 7
 abbrev pub OfBody : ℕ → Type 0

@@ -1,6 +1,6 @@
 -- The judgement of one record in each of its cases.
 use Prim.Native.Nat.{ℕ, ◌-◌, ◌<◌, ◌≤◌}
-use mathlib.Core.Path.{◌≡◌, ◌∙◌}
+use mathlib.Core.Path.{◌≡◌, refl, ◌∙◌}
 use mathlib.Core.List.{List}
 use native.Mathlib.Omega.{arith}
 use lib.ListN.{length, drop}
@@ -10,7 +10,8 @@ use Rattle.octets.specs.Octets.{part}
 use Rattle.rules.specs.Ask.{over}
 use Rattle.rules.proofs.Asked.{over_bind}
 use Rattle.header.specs.Kind.{size}
-use Rattle.header.specs.Frame.{Framing, unframed, frame, frame_at}
+use Rattle.header.specs.Frame.{Framing, unframed, framing_of, frame, frame_at}
+use Rattle.header.specs.declared.Framed.{Framed}
 use Rattle.header.proofs.Framing.{framed-within, framed-left, framed-placed}
 use Rattle.walk.specs.Judged.{Judged, fit, off, cut}
 use Rattle.walk_judge.specs.Body.{check}
@@ -51,6 +52,12 @@ module _ (s : List ℕ) (at : ℕ) where
 
       pub judged-off : (c ≡ 0 → ⊥) → off c f.end ≡ over s (judge_at at)
       judged-off y = rw (← judged-framed, ne_eqb c 0 y)
+
+  -- it lies in the stream
+  pub frame_inside : (x : Framed) → framing_of x ≡ frame_at s at → (x.body ≤ x.end) × (x.end ≤ length s)
+  frame_inside x e =
+      let p = framed-placed s at (framing_of x) e refl in
+      let a = p.body in let b = p.end in (omega arith, p.room)
 
   -- the public judgement by the verdict
   pub judgement_beyond : length s < at → not_judged 8 ≡ judgement_at s at

@@ -1,47 +1,40 @@
 -- Two answers that say the same are equal: the promises allow one result.
 use Prim.Native.Nat.{ℕ}
-use mathlib.Core.Path.{◌≡◌, sym, ap}
-use native.Mathlib.Omega.{arith}
+use mathlib.Core.Path.{◌≡◌, sym, ◌∙◌, ap}
+use Rattle.std.specs.Prelude.{Result, Ok, Err}
 use Rattle.answer.specs.Refusal.{number_of}
+use Rattle.answer.specs.declared.Refusal.{Refusal}
 use Rattle.answer.proofs.Refusals.{number-not-zero, number_unique}
-use Rattle.header.specs.Frame.{Framing, unframed}
-use Rattle.header.specs.Back.{header_of}
-use Rattle.walk.specs.Judged.{Judged, fit, off, cut}
+use Rattle.header.specs.Frame.{framing_of}
+use Rattle.header.specs.declared.Framed.{Framed}
+use Rattle.header.specs.declared.Located.{Located}
+use Rattle.header.proofs.Unique.{framing_unique}
 use Rattle.walk_judge.specs.Record.{Judging, judging, judged}
-use Rattle.walk_judge.specs.declared.JudgeAnswer.{JudgeAnswer}
-use Rattle.walk_judge.specs.declared.JudgeAnswer.TheVariants.{Record, Refused}
 use Rattle.walk_judge.specs.declared.Verdict.{Verdict}
 use Rattle.walk_judge.specs.declared.Verdict.TheVariants.{Fit, Off, Cut}
 
--- the answer that hands out a frame
-abbrev record_of : ℕ → Framing → JudgeAnswer
-record_of p f = Record p (header_of f.head) (record { 0 = f.head.wire }) f.body f.end
+pub framed_unique : (a b : Framed) → framing_of a ≡ framing_of b → a ≡ b
+framed_unique a b e = let q = framing_unique (Ok a) (Ok b) e in cc
 
-pub judging_unique : (a b : JudgeAnswer) → judging a ≡ judging b → a ≡ b
-judging_unique (Record s h w x y) (Record t i v p q) e =
-    ap (λ (j : Judging). record_of j.start j.frame) e
-judging_unique (Record s h w x y) (Refused r) e = absurd (number-not-zero r (ap (λ (j : Judging). j.frame.head.number) (sym e)))
-judging_unique (Refused r) (Record s h w x y) e = absurd (number-not-zero r (ap (λ (j : Judging). j.frame.head.number) e))
-judging_unique (Refused r) (Refused q) e = ap Refused (number_unique r q (ap (λ (j : Judging). j.frame.head.number) e))
+pub located_unique : (a b : Located) → a.start ≡ b.start → framing_of a.frame ≡ framing_of b.frame → a ≡ b
+located_unique a b i e =
+    let f : ℕ → Framed → Located = λ s x. record { start = s; frame = x } in
+    ap (λ (s : ℕ). f s a.frame) i ∙ ap (f b.start) (framed_unique a.frame b.frame e)
 
--- the frame of a record that fits
-abbrev frame_of : Judged → Framing
-frame_of (fit f) = f
-frame_of (off r e) = unframed r
-frame_of (cut r) = unframed r
+pub judging_unique : (a b : Result Located Refusal) → judging a ≡ judging b → a ≡ b
+judging_unique (Ok x) (Ok y) e =
+    ap Ok (located_unique x y (ap (λ (j : Judging). j.start) e) (ap (λ (j : Judging). j.frame) e))
+judging_unique (Ok x) (Err r) e = absurd (number-not-zero r (ap (λ (j : Judging). j.frame.head.number) (sym e)))
+judging_unique (Err r) (Ok x) e = absurd (number-not-zero r (ap (λ (j : Judging). j.frame.head.number) e))
+judging_unique (Err r) (Err q) e = ap Err (number_unique r q (ap (λ (j : Judging). j.frame.head.number) e))
 
 pub judged_unique : (a b : Verdict) → judged a ≡ judged b → a ≡ b
-judged_unique (Fit h w x y) (Fit i v p q) e =
-    ap (λ (j : Judged). Fit (header_of (frame_of j).head) (record { 0 = (frame_of j).head.wire }) (frame_of j).body (frame_of j).end) e
-judged_unique (Fit h w x y) (Off r z) e = absurd (let n : ◌≡◌ {A = ℕ} 0 1 = cc in omega arith)
-judged_unique (Fit h w x y) (Cut r) e = absurd (let n : ◌≡◌ {A = ℕ} 0 1 = cc in omega arith)
-judged_unique (Off r z) (Fit h w x y) e = absurd (let n : ◌≡◌ {A = ℕ} 0 1 = cc in omega arith)
-judged_unique (Off r z) (Off q y) e =
-    let n : number_of r ≡ number_of q = cc in
-    let m : r ≡ q = number_unique r q n in
-    let l : z ≡ y = cc in
-    rw (m, l)
-judged_unique (Off r z) (Cut q) e = absurd (let n : ◌≡◌ {A = ℕ} 0 1 = cc in omega arith)
-judged_unique (Cut r) (Fit h w x y) e = absurd (let n : ◌≡◌ {A = ℕ} 0 1 = cc in omega arith)
-judged_unique (Cut r) (Off q z) e = absurd (let n : ◌≡◌ {A = ℕ} 0 1 = cc in omega arith)
+judged_unique (Fit f) (Fit g) e = ap Fit (framed_unique f g (let i : framing_of f ≡ framing_of g = cc in i))
+judged_unique (Fit f) (Off r z) e = cc
+judged_unique (Fit f) (Cut r) e = cc
+judged_unique (Off r z) (Fit f) e = cc
+judged_unique (Off r z) (Off q y) e = let n : number_of r ≡ number_of q = cc in let m = number_unique r q n in cc
+judged_unique (Off r z) (Cut q) e = cc
+judged_unique (Cut r) (Fit f) e = cc
+judged_unique (Cut r) (Off q z) e = cc
 judged_unique (Cut r) (Cut q) e = ap Cut (number_unique r q (let n : number_of r ≡ number_of q = cc in n))

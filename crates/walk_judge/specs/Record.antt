@@ -1,16 +1,15 @@
 -- The judgement of one record (01, Refusal numbers): 1, 2, 3, 1 and 4 of its frame, then 5, 6 and 7 of its body.
-use Rattle.std.specs.Prelude.{ℕ, List, cond, length, drop, ltb, eqb}
+use Rattle.std.specs.Prelude.{ℕ, List, cond, length, drop, ltb, eqb, Result, Ok, Err}
 use Rattle.answer.specs.Refusal.{number_of}
+use Rattle.answer.specs.declared.Refusal.{Refusal}
 use Rattle.rules.specs.Ask.{Ask, done, octets, ◌>>=◌, over, past}
 use Rattle.header.specs.Kind.{size}
-use Rattle.header.specs.Read.{accepted}
-use Rattle.header.specs.Frame.{Framing, unframed, frame}
+use Rattle.header.specs.Frame.{Framing, unframed, framing_of, frame}
+use Rattle.header.specs.declared.Located.{Located}
 use Rattle.walk.specs.Judged.{Judged, fit, off, cut}
 use Rattle.walk_judge.specs.Body.{check}
 use Rattle.walk_judge.specs.declared.Verdict.{Verdict}
 use Rattle.walk_judge.specs.declared.Verdict.TheVariants.{Fit, Off, Cut}
-use Rattle.walk_judge.specs.declared.JudgeAnswer.{JudgeAnswer}
-use Rattle.walk_judge.specs.declared.JudgeAnswer.TheVariants.{Record, Refused}
 
 -- a framed record, by what its body check has found
 abbrev pub ruled : Framing → ℕ → Judged
@@ -33,8 +32,7 @@ judge_at p = past p (judge p)
 
 -- what each verdict says
 abbrev pub judged : Verdict → Judged
-judged (Fit h w body end) =
-    fit (record { head = accepted h.timestamp h.kind h.subtype w.0 h.length.0 h.micros; body = body; end = end })
+judged (Fit f) = fit (framing_of f)
 judged (Off r e) = off (number_of r) e
 judged (Cut r) = cut (number_of r)
 
@@ -48,13 +46,9 @@ abbrev pub not_judged : ℕ → Judging
 not_judged n = record { start = 0; frame = unframed n }
 
 -- what each answer says
-abbrev pub judging : JudgeAnswer → Judging
-judging (Record start h w body end) =
-    record {
-      start = start;
-      frame = record { head = accepted h.timestamp h.kind h.subtype w.0 h.length.0 h.micros; body = body; end = end };
-    }
-judging (Refused r) = not_judged (number_of r)
+abbrev pub judging : Result Located Refusal → Judging
+judging (Ok x) = record { start = x.start; frame = framing_of x.frame }
+judging (Err r) = not_judged (number_of r)
 
 abbrev pub judgement : ℕ → Judged → Judging
 judgement at (fit f) = record { start = at; frame = f }

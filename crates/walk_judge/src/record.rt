@@ -3,60 +3,45 @@ ghost use Rattle.std.specs.Prelude.{◌≡◌};
 ghost use Rattle.rules.specs.Ask.{over};
 ghost use Rattle.walk_judge.specs.Record.{judge_at, judged, judging, judgement_at};
 
+use crate::Verdict;
 use crate::body::check_body;
-use crate::{JudgeAnswer, Verdict};
-use answer::{Outcome, Refusal};
-use header::FrameAnswer;
+use answer::Refusal;
+use header::Located;
 
-// The record at an offset of a stream, or its refusal's number.
-pub fn judge_record(s: &[u8], at: usize) -> JudgeAnswer
+// The record at an offset of a stream that passes all checks.
+#[tactic(auto, using(crate::proofs::Judging::judgement_beyond))]
+pub fn judge_record(s: &[u8], at: usize) -> Result<Located, Refusal>
     ensures answer { judging result ≡ judgement_at s.now at }
 {
     if s.len() < at {
-        return JudgeAnswer::Refused(Refusal::Beyond);
+        return Err(Refusal::Beyond);
     }
     match judge_at(s, at) {
-        Verdict::Cut(r) => JudgeAnswer::Refused(r),
-        Verdict::Off { refusal, end: _ } => JudgeAnswer::Refused(refusal),
-        Verdict::Fit {
-            header,
-            wire,
-            body,
-            end,
-        } => JudgeAnswer::Record {
-            start: at,
-            header,
-            wire,
-            body,
-            end,
-        },
+        Verdict::Fit(frame) => Ok(Located { start: at, frame }),
+        Verdict::Off { refusal, end: _ } => Err(refusal),
+        Verdict::Cut(refusal) => Err(refusal),
     }
 }
 
 // The same as the walk asks it: a record that is refused keeps its end, and past the stream too few octets are left.
+#[tactic(auto, using(crate::proofs::Soundness::judge_beyond))]
 pub fn judge_at(s: &[u8], at: usize) -> Verdict
     ensures answer { judged result ≡ over s.now (judge_at at) }
 {
     if s.len() < at {
         return Verdict::Cut(Refusal::TruncatedHeader);
     }
-    match header::frame_record(s, at) {
-        FrameAnswer::Refused(r) => Verdict::Cut(r),
-        FrameAnswer::Framed {
-            header,
-            wire,
-            body,
-            end,
-        } => {
-            match check_body(&s[body..end], header.kind, header.subtype, header.length) {
-                Outcome::Refused(refusal) => Verdict::Off { refusal, end },
-                Outcome::Accepted => Verdict::Fit {
-                    header,
-                    wire,
-                    body,
-                    end,
-                },
-            }
-        }
+    let frame = match header::frame_record(s, at) {
+        Ok(frame) => frame,
+        Err(refusal) => return Verdict::Cut(refusal),
+    };
+    let body = &s[frame.body..frame.end];
+    let header = frame.head.header;
+    match check_body(body, header.kind, header.subtype, header.length) {
+        Ok(()) => Verdict::Fit(frame),
+        Err(refusal) => Verdict::Off {
+            refusal,
+            end: frame.end,
+        },
     }
 }

@@ -129,11 +129,13 @@ module _ (w e l : ℕ) (he : e < 2 ^ w) (hl : l < 2 ^ w) where
       all m s = let r : e + 2 ^ w - 2 ^ w ≡ e = omega arith in
           (omega arith, rw s (mod-eq-sub-mod (omega arith) ∙ rw r (mod-eq_of_lt he ∙ q)))
 
+-- the difference as code takes it: the earlier number is taken from 2^w first, so that nothing is taken from less
+pub less-apart : (w e l : ℕ) → e < 2 ^ w → (l + (2 ^ w - e)) % 2 ^ w ≡ apart w e l
+unfolding apart
+less-apart w e l h = ap (λ (x : ℕ). x % 2 ^ w) (omega arith)
+
 -- a counter whose width is known to be that of b
 module _ (narrow b : Bool) (f : narrow ≡ b) where
-  pub width_fits : (v : ℕ) → v < 2 ^ width narrow → v < 2 ^ width b
-  width_fits v h = rw f at h
-
   pub wrapped : (e l x : ℕ) → e < 2 ^ width narrow → l < 2 ^ width narrow → x < 2 ^ width b → (x + e) % 2 ^ width b ≡ l
       → x ≡ apart (width narrow) e l
   wrapped e l x he hl hx q = apart_only (width narrow) e l he hl x (rw f hx) (rw f q)

@@ -1,8 +1,8 @@
 // One record counted.
-ghost use Rattle.std.specs.Prelude.{◌≡◌, true, false};
-ghost use Rattle.walk_missing.specs.Row.{counted, fresh_counters, untold as untold_rule, count_row, count as count_rule};
+ghost use Rattle.std.specs.Prelude.{◌≡◌};
+ghost use Rattle.walk_missing.specs.Row.{counted, fresh_counters, untold as untold_rule, count_row as row_rule, count as count_rule};
 
-use crate::turned::since;
+use crate::turned::{Number, show};
 use crate::{Counted, Counters, Missing};
 
 // Counters before the first record.
@@ -18,16 +18,15 @@ pub fn fresh() -> Counters
 }
 
 // A record by its type, subtype and body: what is told of it, and the counters after it.
+#[tactic(auto, unfolding(crate::specs::Row::count, crate::specs::Row::is_row, crate::specs::Row::is_peers))]
 pub fn count(c: Counters, kind: u16, subtype: u16, body: &[u8]) -> Counted
     ensures answer { counted result ≡ count_rule c kind subtype body.now }
 {
-    if kind == 12 {
-        return count_dump(c, body);
+    match kind {
+        12 => count_row::<u16>(c, body),
+        13 => count_table(c, subtype, body),
+        _ => untold(c),
     }
-    if kind == 13 {
-        return count_table(c, subtype, body);
-    }
-    untold(c)
 }
 
 // Nothing is told of a record, whatever the counters are after it.
@@ -40,53 +39,35 @@ fn untold(c: Counters) -> Counted
     }
 }
 
-// A record of type 12.
-fn count_dump(c: Counters, body: &[u8]) -> Counted
-    ensures { counted result ≡ count_row true c body.now }
-{
-    if body.len() < 4 {
-        return untold(c);
-    }
-    let earlier = c.dump as u32;
-    let later = octets::be16(body, 2);
-    let missing = since(true, c.dumped, earlier, later as u32);
-    let counters = Counters {
-        tabled: c.tabled,
-        table: c.table,
-        dumped: true,
-        dump: later,
-    };
-    Counted { counters, missing }
-}
-
 // A record of type 13. A peer table starts both counts afresh.
+#[tactic(auto, unfolding(crate::specs::Row::count, crate::specs::Row::is_row, crate::specs::Row::is_peers))]
 fn count_table(c: Counters, subtype: u16, body: &[u8]) -> Counted
     ensures { counted result ≡ count_rule c 13 subtype body.now }
 {
     if subtype == 1 {
         return untold(fresh());
     }
-    let l = rib_head::layout_of(subtype);
-    if !l.carried {
+    if rib_head::layout_of(subtype).is_none() {
         return untold(c);
     }
-    count_rib(c, body)
+    count_row::<u32>(c, body)
 }
 
-// A RIB of type 13.
-fn count_rib(c: Counters, body: &[u8]) -> Counted
-    ensures { counted result ≡ count_row false c body.now }
+// A record with a sequence number.
+#[tactic(auto, unfolding(crate::specs::Row::count_row, crate::specs::Turned::since))]
+fn count_row<N: Number>(c: Counters, body: &[u8]) -> Counted
+    ensures { counted result ≡ row_rule N.narrow c body.now }
 {
     if body.len() < 4 {
         return untold(c);
     }
-    let later = octets::be32(body, 0);
-    let missing = since(false, c.tabled, c.table, later);
-    let counters = Counters {
-        tabled: true,
-        table: later,
-        dumped: c.dumped,
-        dump: c.dump,
+    let later = N::read(body);
+    let missing = match N::last(c) {
+        None => Missing::Nothing,
+        Some(earlier) => show(later.less(earlier)),
     };
-    Counted { counters, missing }
+    Counted {
+        counters: later.keep(c),
+        missing,
+    }
 }

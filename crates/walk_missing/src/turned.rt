@@ -1,33 +1,95 @@
 // Sequence numbers, which turn over at their width.
-ghost use Rattle.std.specs.Prelude.{◌≡◌, ◌^◌, ◌<◌};
-ghost use Rattle.walk_missing.specs.Turned.{width, apart as apart_rule, since as since_rule};
-ghost use Rattle.walk_missing.specs.Row.{told};
+ghost use Rattle.std.specs.Prelude.{◌≡◌, ℕ, Bool, true, false, MatchOption};
+ghost use Rattle.walk_missing.specs.Turned.{width, apart, shown};
+ghost use Rattle.walk_missing.specs.Row.{told, seen, last as last_rule, kept, sequence};
 
-use crate::Missing;
+use crate::{Counters, Missing};
 
-// What is told of a number and the last one before it, if one was seen.
-pub(crate) fn since(narrow: bool, seen: bool, earlier: u32, later: u32) -> Missing
-    requires { (earlier < 2 ^ width narrow) × (later < 2 ^ width narrow) }
-    ensures { told result ≡ since_rule (width narrow) seen earlier later }
-{
-    if !seen {
-        return Missing::Nothing;
+// A sequence number: where a body has it, its counter, and how it turns over.
+pub(crate) trait Number: Copy {
+    ghost narrow: { Bool };
+
+    ghost value: { Self → ℕ };
+
+    // The number of a body.
+    fn read(body: &[u8]) -> Self
+        ensures { value result ≡ sequence narrow body.now };
+
+    // The last one that was seen.
+    fn last(c: Counters) -> Option<Self>
+        ensures { MatchOption result (seen narrow c ≡ false)
+            (λ e. (seen narrow c ≡ true) × (value e ≡ last_rule narrow c)) };
+
+    // The counters after it.
+    fn keep(self, c: Counters) -> Counters
+        ensures { result ≡ kept narrow c (value self) };
+
+    // Less an earlier one, turned over.
+    fn less(self, earlier: Self) -> u32
+        ensures { result ≡ apart (width narrow) (value earlier) (value self) };
+}
+
+// Of type 12: View Number 2, Sequence Number 2.
+impl Number for u16 {
+    ghost narrow = { true };
+
+    ghost value = { λ n. n };
+
+    fn read(body: &[u8]) -> u16 {
+        octets::be16(body, 2)
     }
-    let difference = apart(narrow, earlier, later);
+
+    fn last(c: Counters) -> Option<u16> {
+        c.dumped.then_some(c.dump)
+    }
+
+    fn keep(self, c: Counters) -> Counters {
+        Counters {
+            dumped: true,
+            dump: self,
+            ..c
+        }
+    }
+
+    fn less(self, earlier: u16) -> u32 {
+        u32::from(self.wrapping_sub(earlier))
+    }
+}
+
+// Of type 13.
+impl Number for u32 {
+    ghost narrow = { false };
+
+    ghost value = { λ n. n };
+
+    fn read(body: &[u8]) -> u32 {
+        octets::be32(body, 0)
+    }
+
+    fn last(c: Counters) -> Option<u32> {
+        c.tabled.then_some(c.table)
+    }
+
+    fn keep(self, c: Counters) -> Counters {
+        Counters {
+            tabled: true,
+            table: self,
+            ..c
+        }
+    }
+
+    fn less(self, earlier: u32) -> u32 {
+        self.wrapping_sub(earlier)
+    }
+}
+
+// What is told of a difference.
+#[tactic(auto, unfolding(crate::specs::Turned::shown))]
+pub(crate) fn show(difference: u32) -> Missing
+    ensures { told result ≡ shown difference }
+{
     if difference == 0 {
         return Missing::Repeat;
     }
-    let rows = difference - 1;
-    Missing::Rows(rows)
-}
-
-// The later number less the earlier one: of 16 bits where they are narrow, of 32 where they are not.
-fn apart(narrow: bool, earlier: u32, later: u32) -> u32
-    requires { (earlier < 2 ^ width narrow) × (later < 2 ^ width narrow) }
-    ensures { result ≡ apart_rule (width narrow) earlier later }
-{
-    if narrow {
-        return std::num::wrapping_sub_u16(later as u16, earlier as u16) as u32;
-    }
-    std::num::wrapping_sub_u32(later, earlier)
+    Missing::Rows(difference - 1)
 }

@@ -5,12 +5,12 @@ use mathlib.Core.Bool.{Bool, true, false}
 use mathlib.Core.List.{List}
 use native.Mathlib.Omega.{arith}
 use lib.ListN.{length}
-use lib.Dec.{leb, ltb}
-use borrow.Author.Tests.{leb-true, leb-false, ltb-true, ltb-false}
+use lib.Dec.{leb}
+use borrow.Author.Tests.{leb-true, leb-false}
 use Rattle.rules.specs.Ask.{over}
 use Rattle.walk.specs.Step.{nowhere, scan}
 use Rattle.walk.specs.Judged.{fails}
-use Rattle.walk.proofs.Turns.{Left, scan-over, scan-past, scan_turned, scan_looks, row-fails}
+use Rattle.walk.proofs.Turns.{Left, Looks, scan-over, scan-past, scan_turned, scan_looks, row-fails}
 use Rattle.walk_candidate.specs.Candidate.{candidate_at}
 use Rattle.walk_scan.specs.Sight.{Passed, Clear}
 use Rattle.walk_candidate.proofs.Candidates.{candidate_near}
@@ -25,9 +25,6 @@ scan_reached s more p window d u l h = by_window (leb window d) refl
     by_window false t =
         let w : d < window = leb-false _ _ t in
         scan-past candidate_at s more p window d h (λ q m. sym (candidate_near s q (omega arith)))
-
-pub passed_none : (s : List ℕ) (p from : ℕ) → Passed s p from from
-passed_none s p from e l u = absurd (omega arith)
 
 -- distances that are passed over, and those after them
 pub passed_on : (s : List ℕ) (p from d to : ℕ) → Passed s p from d → Passed s p d to → Passed s p from to
@@ -45,19 +42,6 @@ passed_block s p from d n h q = passed_on s p from d (d + n) h after
     after e l u =
         let z : p + (d + 1) + (e - (d + 1)) ≡ p + e = omega arith in
         rw z at (q (e - (d + 1)) (omega arith))
-
-pub passed-one : (s : List ℕ) (p from d : ℕ) → Passed s p from d → fails ≡ over s (candidate_at (p + (d + 1))) → Passed s p from (d + 1)
-passed-one s p from d h q = passed_block s p from d 1 h (λ i l. let z : p + (d + 1) + i ≡ p + (d + 1) = omega arith in rw z q)
-
-pub clear_none : (s : List ℕ) (at : ℕ) → Clear s at 0
-clear_none s at i l = absurd (omega arith)
-
-pub clear_one : (s : List ℕ) (at n : ℕ) → Clear s at n → fails ≡ over s (candidate_at (at + n)) → Clear s at (n + 1)
-clear_one s at n h q i l = by_last (ltb i n) refl
-  where
-    by_last : (t : Bool) → ltb i n ≡ t → fails ≡ over s (candidate_at (at + i))
-    by_last true t = h i (ltb-true _ _ t)
-    by_last false t = let z : n ≡ i = let w : n ≤ i = ltb-false _ _ t in omega arith in rw (← z) q
 
 -- distances that are passed over are turned down
 pub left_passed : (s : List ℕ) (more p window from : ℕ) → from ≤ window → Left candidate_at s more p window from
@@ -77,3 +61,11 @@ pub left_over : (s : List ℕ) (more p window from to : ℕ) → from ≤ to →
 left_over s more p window from to l u h q =
     let z : from + (to - from) ≡ to = omega arith in
     rw z at (left_passed s more p window from (omega arith) h (to - from) (omega arith) (λ e a b. q e a (omega arith)))
+
+-- the next distance is looked at, once those up to it are passed over
+pub looks_next : (s : List ℕ) (more p window d next : ℕ) → d < next → next ≤ window → Left candidate_at s more p window d
+    → Passed s p d (next - 1) → Looks candidate_at s more p window next (p + next)
+looks_next s more p window d next l u h q =
+    let e : next - 1 + 1 ≡ next = omega arith in
+    rw e at (scan_looks candidate_at s more p window (next - 1) (omega arith)
+    (left_over s more p window d (next - 1) (omega arith) (omega arith) h q))

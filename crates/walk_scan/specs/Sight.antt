@@ -1,16 +1,16 @@
 -- What an answer of the scan says (01, Walk, confirmation, scan), and what its helpers rule out.
-use Rattle.std.specs.Prelude.{ℕ, ◌+◌, ◌<◌, ◌≤◌, ◌≡◌, List}
+use Rattle.std.specs.Prelude.{ℕ, ◌+◌, ◌<◌, ◌≤◌, ◌≡◌, List, Option, Some, None}
 use Rattle.rules.specs.Ask.{over}
 use Rattle.walk.specs.Judged.{fails}
+use Rattle.walk.specs.Evidence.{evidence_number}
 use Rattle.walk.specs.Step.{found, nowhere}
 use Rattle.walk.specs.Step as rule
 use Rattle.walk_candidate.specs.Candidate.{candidate_at}
 use Rattle.walk_scan.specs.declared.Found.{Found}
-use Rattle.walk_scan.specs.declared.Found.TheVariants.{At, Nowhere}
 
-abbrev pub sighted : Found → rule.Found
-sighted (At o v) = found o v
-sighted Nowhere = nowhere
+abbrev pub sighted : Option Found → rule.Found
+sighted (Some x) = found x.offset (evidence_number x.evidence)
+sighted None = nowhere
 
 -- no candidate stands at a distance from p after `from`, up to d
 abbrev pub Passed : List ℕ → ℕ → ℕ → ℕ → Type 0

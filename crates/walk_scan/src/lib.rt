@@ -4,10 +4,11 @@
 mod sight;
 
 pub use sight::scan;
+use walk::Evidence;
 
 // The offset where the asked run stands, with the first one's evidence.
-#[derive(Clone, Copy)]
-pub enum Found {
-    At { offset: usize, evidence: u8 },
-    Nowhere,
+#[derive(Clone, Copy, PartialEq, Eq)]
+pub struct Found {
+    pub offset: usize,
+    pub evidence: Evidence,
 }

@@ -1,16 +1,19 @@
 -- What code has found, as the rules of the walk say it.
 use Prim.Native.Nat.{ℕ, suc, ◌+◌, ◌-◌, ◌<◌, ◌≤◌}
-use mathlib.Core.Path.{◌≡◌, sym, ◌∙◌, ap}
+use mathlib.Core.Path.{◌≡◌, refl, sym, ◌∙◌, ap}
 use mathlib.Core.List.{List}
 use native.Mathlib.Omega.{arith}
 use lib.ListN.{length}
 use Rattle.rules.specs.Ask.{over}
 use Rattle.header.specs.Frame.{Framing}
-use Rattle.walk.specs.Judged.{fit, off, cut}
+use Rattle.header.specs.declared.Framed.{Framed}
+use Rattle.walk.specs.Judged.{fit}
 use Rattle.walk.specs.Step.{moved, gap, asked, Tried, passed, failed, Found, found, aligned, scan, scanned}
 use Rattle.walk.proofs.Turns.{aligned_enough, aligned-end, aligned-fit, aligned-off, aligned-cut}
 use Rattle.walk.proofs.Calls.{scanned-found}
-use Rattle.walk_judge.specs.Record.{judge_at}
+use Rattle.walk_judge.specs.Record.{judge_at, judged}
+use Rattle.walk_judge.specs.declared.Verdict.{Verdict}
+use Rattle.walk_judge.specs.declared.Verdict.TheVariants.{Fit, Off, Cut}
 use Rattle.walk_candidate.specs.Candidate.{candidate_at}
 
 -- a try of n records from `at` on, of which m have passed, and the next is judged at p
@@ -33,11 +36,11 @@ module _ (s : List ℕ) (n at : ℕ) where
       goes_end u = rw (g, left) (aligned-end judge_at s (n - (m + 1)) m p u)
 
       module _ (u : p < length s) where
-        pub goes_off : {r e : ℕ} → off r e ≡ over s (judge_at p) → failed ≡ over s (aligned judge_at n 0 at)
-        goes_off q = rw (g, left) (aligned-off judge_at s (n - (m + 1)) m p u (sym q))
-
-        pub goes_cut : {r : ℕ} → cut r ≡ over s (judge_at p) → failed ≡ over s (aligned judge_at n 0 at)
-        goes_cut q = rw (g, left) (aligned-cut judge_at s (n - (m + 1)) m p u (sym q))
+        pub goes_not : (v : Verdict) → ((f : Framed) → v ≡ Fit f → ⊥) → judged v ≡ over s (judge_at p)
+            → failed ≡ over s (aligned judge_at n 0 at)
+        goes_not (Fit f) z q = absurd (z f refl)
+        goes_not (Off r e) z q = rw (g, left) (aligned-off judge_at s (n - (m + 1)) m p u (sym q))
+        goes_not (Cut r) z q = rw (g, left) (aligned-cut judge_at s (n - (m + 1)) m p u (sym q))
 
         pub goes_on : (f : Framing) → fit f ≡ over s (judge_at p) → Goes (m + 1) f.end
         goes_on f q =

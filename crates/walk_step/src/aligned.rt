@@ -5,34 +5,22 @@ ghost use Rattle.walk.specs.Step.{aligned};
 ghost use Rattle.walk_judge.specs.Record.{judge_at};
 ghost use Rattle.walk_step.specs.Answers.{tried};
 
-use crate::Tried;
 use walk_judge::Verdict;
 
-// Records from an offset on, until the asked number pass or the stream ends exactly between two.
-pub(crate) fn try_own_end(s: &[u8], at: usize, asked: u8) -> Tried
+// How many records pass from an offset on: as many as are asked for, or fewer where the stream ends exactly after them.
+pub(crate) fn try_own_end(s: &[u8], at: usize, asked: u8) -> Option<u8>
     ensures { tried result ≡ over s.now (aligned judge_at asked 0 at) }
 {
     let n = s.len();
-    let mut passed: u8 = 0;
     let mut p = at;
-    while passed < asked {
+    for passed in 0..asked {
         if n <= p {
-            return Tried::Passed(passed);
+            return Some(passed);
         }
-        let v = walk_judge::judge_at(s, p);
-        match v {
-            Verdict::Cut(_) => return Tried::Failed,
-            Verdict::Off { refusal: _, end: _ } => return Tried::Failed,
-            Verdict::Fit {
-                header: _,
-                wire: _,
-                body: _,
-                end,
-            } => {
-                p = end;
-                passed += 1;
-            }
-        }
+        let Verdict::Fit(frame) = walk_judge::judge_at(s, p) else {
+            return None;
+        };
+        p = frame.end;
     }
-    Tried::Passed(passed)
+    Some(asked)
 }

@@ -3,28 +3,23 @@
 
 mod aligned;
 mod call;
+mod lost;
 
 use answer::Refusal;
 pub use call::{next, step};
-use header::{CommonHeader, WireLength};
-use walk::Walk;
+use header::Located;
+use walk::{Evidence, Walk};
 
 #[derive(Clone, Copy)]
 pub enum WalkAnswer {
     // A record that passes all checks.
-    Record {
-        start: usize,
-        header: CommonHeader,
-        wire: WireLength,
-        body: usize,
-        end: usize,
-    },
+    Record(Located),
     // Octets that no record is taken from: why, by what evidence the walk goes on at the end, and how many records confirm it.
     Gap {
         start: usize,
         end: usize,
         refusal: Refusal,
-        evidence: u8,
+        evidence: Evidence,
         confirmed: u8,
     },
     // The end, with the walk's position.
@@ -43,11 +38,4 @@ pub enum WalkAnswer {
 pub struct Stepped {
     pub walk: Walk,
     pub answer: WalkAnswer,
-}
-
-// How many records have passed from a record's own end on, or that one has not.
-#[derive(Clone, Copy)]
-pub(crate) enum Tried {
-    Passed(u8),
-    Failed,
 }

@@ -1,11 +1,9 @@
-use mathlib.Core.Path.{refl}
-use Rattle.walk_checks.specs.Bgp4mp.{as_size, as_sizes}
-use Rattle.walk_checks.proofs.Envelopes.{as_size-rest}
+use Rattle.std.proofs.Common.{◌∙◌}
+use Rattle.octets_address.specs.Address.{nonzero}
+use Rattle.walk_checks.specs.Bgp4mp.{as_sizes, as_size}
+use Rattle.walk_checks.proofs.Lengths.{row_read, flat}
 use Rattle.walk_checks.proofs.bgp4mp.as_size.Goals as goal
 
-pub returns-then-u-lt12 : goal.returns-then-u-lt12
-unfolding as_size as_sizes
-returns-then-u-lt12 c = refl
-
 pub returns : goal.returns
-returns c = as_size-rest _ c.if-u-lt12.false
+unfolding as_sizes as_size nonzero
+returns c = row_read nonzero as_sizes 0 _ (c.flatten.ensures ∙ flat c.copied.result) c.copied.ensures c.from.ensures c.get.ensures.lookup

@@ -1,77 +1,53 @@
-use Prim.Native.Nat.{◌+◌, ◌-◌}
-use mathlib.Core.Path.{refl, sym, ◌∙◌, ap}
+use Prim.Native.Nat.{◌+◌}
+use mathlib.Core.Bool.{cond}
+use mathlib.Core.Path.{◌≡◌, refl, sym, ap}
 use native.Mathlib.Omega.{arith}
-use Rattle.walk.proofs.Turns.{Looks, scan_starts, scan_looks, scan_turned, scan-left}
-use Rattle.walk.proofs.Turns.{row_starts, row_ends, row_turned, row-whole}
-use Rattle.walk_candidate.specs.Candidate.{candidate_at, candidacy}
-use Rattle.walk_scan.proofs.Scans.{scan_reached, left_over}
+use lib.Dec.{eqb}
+use borrow.Author.Tests.{eq-eqb, ne_eqb}
+use Rattle.walk.specs.Evidence.{evidence_number}
+use Rattle.walk.proofs.Turns.{scan_starts, scan_turned, scan-left, row_starts, row_ends, row_turned, row-whole}
+use Rattle.walk_candidate.specs.Candidate.{candidate_at}
+use Rattle.walk_scan.proofs.Scans.{scan_reached, left_over, looks_next}
 use Rattle.walk_scan.proofs.sight.scan.Goals as goal
+use Rattle.walk_scan.proofs.sight.scan.Goals.{then-i-eq0, else-i-eq0}
 
 pub distance-init : goal.distance-init
 distance-init c = (omega arith, c.reach-last.ensures, scan_starts candidate_at _ _ _ _)
 
-pub pass_over-d-requires : goal.pass_over-d-requires
-pass_over-d-requires c = (c.distance.invariant.0, omega arith)
-
-pub returns-then-last-d : goal.returns-then-last-d
-returns-then-last-d c = record {
-  answer =
-      scan_reached _ _ _ _ _ (omega arith) (omega arith)
-      (left_over _ _ _ _ _ _ c.pass_over-d.ensures.0 (omega arith) c.distance.invariant.2 c.pass_over-d.ensures.2);
-}
-
-pub overflow_add-d : goal.overflow_add-d
-overflow_add-d c = omega arith
-
-pub overflow_add-offset : goal.overflow_add-offset
-overflow_add-offset c = omega arith
-
-pub loop-by-init : goal.loop-by-init
-loop-by-init c = (omega arith, row_starts candidate_at _ _ _ _)
-
-pub distance-smaller : goal.distance-smaller
-distance-smaller c =
-    omega (arith, c.pass_over-d.ensures.0, c.if-last-d.false)
+pub loop-i-init : goal.loop-i-init
+loop-i-init c = row_starts candidate_at _ _ _ _
 
 pub distance-preserved : goal.distance-preserved
 distance-preserved c =
-    let looks : Looks candidate_at c.args.s.now c.args.more c.args.p c.args.window
-    (c.pass_over-d.result + 1) (c.args.p + (c.pass_over-d.result + 1)) =
-    let inv = c.distance.invariant in
-    let passed = left_over _ _ _ _ _ _ c.pass_over-d.ensures.0 (omega (arith, c.if-last-d.false, inv.1)) inv.2
-    c.pass_over-d.ensures.2 in
-    scan_looks candidate_at _ _ _ _ _ (omega (arith, c.if-last-d.false, inv.1)) passed in (
-      omega (arith, c.if-last-d.false),
+    let n = c.in-Some.ensures in (
+      n.1,
       c.distance.invariant.1,
-      scan_turned candidate_at _ _ _ _ _ _ refl looks
-          (sym (row_ends candidate_at _ _ _ _ _ _ c.loop-by.invariant.0 c.loop-by.invariant.1
-          (sym c.candidate_at.ensures.answer ∙ ap candidacy c.in_default.is))),
+      scan_turned candidate_at _ _ _ _ _ _ refl (looks_next _ _ _ _ _ _ n.0 (omega (arith, n.1)) c.distance.invariant.2 n.2)
+          (sym (row_ends candidate_at _ _ _ _ _ _ (omega arith) c.loop-i.invariant (sym c.in_default-candidate_at.ensures.answer))),
     )
 
-pub overflow_add-i : goal.overflow_add-i
-overflow_add-i c = omega arith
+pub loop-i-preserved : goal.loop-i-preserved
+loop-i-preserved c =
+    let set : evidence_number c.if-i-eq0.evidence
+    ≡ cond (eqb c.loop-i.i 0) (evidence_number c.in-Some-candidate_at.found.evidence) (evidence_number c.loop-i.evidence) =
+    elim c.if-i-eq0.branch [
+      | then-i-eq0 w ↦ rw (eq-eqb _ 0 w.if-i-eq0.true) (ap evidence_number w.evidence-is)
+      | else-i-eq0 w ↦ rw (ne_eqb _ 0 w.if-i-eq0.false) (ap evidence_number w.evidence-is)
+    ] in
+    row_turned candidate_at _ _ _ _ _ _ (omega arith) c.loop-i.invariant (sym c.in-Some-candidate_at.ensures.answer) set
 
-pub loop-by-smaller : goal.loop-by-smaller
-loop-by-smaller c = omega arith
-
-pub loop-by-preserved : goal.loop-by-preserved
-loop-by-preserved c = (
-  omega arith,
-  row_turned candidate_at _ _ _ _ _ _ c.loop-by.invariant.0 c.loop-by.invariant.1
-      (sym c.candidate_at.ensures.answer ∙ ap candidacy c.in-Stands.is) c.first-evidence.ensures,
-)
+pub returns-in-Some : goal.returns-in-Some
+returns-in-Some c = record {
+  answer =
+      let n = c.in-Some.ensures in
+      let e : c.loop-i.i ≡ c.args.more + 1 = omega arith in
+      scan-left candidate_at _ _ _ _ _ _ (looks_next _ _ _ _ _ _ n.0 (omega (arith, n.1)) c.distance.invariant.2 n.2)
+      (sym (row-whole candidate_at _ _ _ _ _ _ (omega arith) (rw e at c.loop-i.invariant)));
+}
 
 pub returns : goal.returns
 returns c = record {
   answer =
-      let looks : Looks candidate_at c.args.s.now c.args.more c.args.p c.args.window
-      (c.pass_over-d.result + 1) (c.args.p + (c.pass_over-d.result + 1)) =
-      let inv = c.distance.invariant in
-      let passed = left_over _ _ _ _ _ _ c.pass_over-d.ensures.0 (omega (arith, c.if-last-d.false, inv.1)) inv.2
-      c.pass_over-d.ensures.2 in
-      scan_looks candidate_at _ _ _ _ _ (omega (arith, c.if-last-d.false, inv.1)) passed in
-      scan-left candidate_at _ _ _ _ _ _ looks
-      (sym (row-whole candidate_at _ _ _ _ _ _ c.if-more-i.true
-      (row_turned candidate_at _ _ _ _ _ _ c.loop-by.invariant.0 c.loop-by.invariant.1
-      (sym c.candidate_at.ensures.answer ∙ ap candidacy c.in-Stands.is) c.first-evidence.ensures)));
+      scan_reached _ _ _ _ _ (omega arith) (omega arith)
+      (left_over _ _ _ _ _ _ c.distance.invariant.0 (omega arith) c.distance.invariant.2 c.in_default.ensures);
 }
