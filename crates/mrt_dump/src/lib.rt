@@ -5,7 +5,7 @@ ghost use Rattle.std.specs.Prelude.{◌≡◌};
 ghost use Rattle.dump_read.specs.Read.{dump_of};
 ghost use Rattle.mrt_dump.specs.Bodies.{dump_out};
 
-use answer::Outcome;
+use answer::Refusal;
 use mrt_lent::{put_values, refusal};
 
 // The fields of a TABLE_DUMP body; its prefix and its peer's address in 16 octets each.
@@ -19,19 +19,11 @@ pub fn mrt_read_table_dump(
     ensures answer { (out.new, (prefix.new, (peer.new, result)))
         ≡ dump_out out.old prefix.old peer.old (dump_of body.now subtype) }
 {
-    let r = dump_read::read_dump(body, subtype);
-    let outcome = r.outcome;
-    match outcome {
-        Outcome::Refused(why) => refusal(why),
-        Outcome::Accepted => {
-            if out.len() < 8 {
-                return 9;
-            }
-            if prefix.len() < 16 {
-                return 9;
-            }
-            if peer.len() < 16 {
-                return 9;
+    match dump_read::read_dump(body, subtype) {
+        Err(why) => refusal(why),
+        Ok(r) => {
+            if out.len() < 8 || prefix.len() < 16 || peer.len() < 16 {
+                return refusal(Refusal::NoRoom);
             }
             let d = r.dump;
             let v = [

@@ -5,7 +5,7 @@ ghost use Rattle.std.specs.Prelude.{◌≡◌};
 ghost use Rattle.mrt_lent.specs.Writer.{written_out};
 ghost use Rattle.mrt_dump_write.specs.Write.{write_from};
 
-use answer::{Refusal, Written};
+use answer::Refusal;
 use dump_layout::Dump;
 use mrt_lent::Wrote;
 
@@ -26,11 +26,8 @@ pub fn mrt_write_table_dump(
     ensures answer { (out.new, result) ≡ written_out (write_from out.old subtype view sequence prefix.now
         bits status originated peer.now asn attributes.now) }
 {
-    if prefix.len() < 16 {
-        return mrt_lent::wrote_of(Written::Refused(Refusal::Beyond));
-    }
-    if peer.len() < 16 {
-        return mrt_lent::wrote_of(Written::Refused(Refusal::Beyond));
+    if prefix.len() < 16 || peer.len() < 16 {
+        return mrt_lent::wrote_of(Err(Refusal::Beyond));
     }
     let d = Dump {
         view,

@@ -8,7 +8,7 @@ ghost use Rattle.header.specs.Write.{write_header};
 ghost use Rattle.mrt_lent.specs.Writer.{written_out};
 ghost use Rattle.mrt_header.specs.Records.{read_out, framed_out};
 
-use header::{CommonHeader, FrameAnswer, HeaderAnswer, StoredLength};
+use header::{CommonHeader, Framed, Located, StoredLength};
 use mrt_lent::Wrote;
 
 // The header at an offset of a stream.
@@ -16,9 +16,14 @@ pub fn mrt_read_header(s: &[u8], at: usize, out: &mut [u64]) -> u32
     ensures answer { (out.new, result) ≡ read_out out.old (header_at s.now at) }
 {
     match header::read_header(s, at) {
-        HeaderAnswer::Refused(r) => mrt_lent::refusal(r),
-        HeaderAnswer::Read { header, wire } => {
-            let v = mrt_lent::record_values(0, 0, header, wire, 0, 0);
+        Err(r) => mrt_lent::refusal(r),
+        Ok(head) => {
+            let frame = Framed {
+                head,
+                body: 0,
+                end: 0,
+            };
+            let v = mrt_lent::record_values(0, Located { start: 0, frame });
             mrt_lent::hand_out(out, &v[2..8])
         }
     }
@@ -29,14 +34,9 @@ pub fn mrt_frame(s: &[u8], at: usize, out: &mut [u64]) -> u32
     ensures answer { (out.new, result) ≡ framed_out out.old (frame_at s.now at) }
 {
     match header::frame_record(s, at) {
-        FrameAnswer::Refused(r) => mrt_lent::refusal(r),
-        FrameAnswer::Framed {
-            header,
-            wire,
-            body,
-            end,
-        } => {
-            let v = mrt_lent::record_values(0, 0, header, wire, body, end);
+        Err(r) => mrt_lent::refusal(r),
+        Ok(frame) => {
+            let v = mrt_lent::record_values(0, Located { start: 0, frame });
             mrt_lent::hand_out(out, &v[2..])
         }
     }

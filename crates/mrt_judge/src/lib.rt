@@ -6,25 +6,17 @@ ghost use Rattle.walk_judge.specs.Body.{check};
 ghost use Rattle.walk_judge.specs.Record.{judgement_at};
 ghost use Rattle.mrt_judge.specs.Judged.{judged_out, candidate_out};
 
-use answer::{Outcome, Refusal};
+use answer::Refusal;
 use header::StoredLength;
-use walk_candidate::CandidateAnswer;
-use walk_judge::JudgeAnswer;
 
 // The record at an offset of a stream, judged.
 pub fn mrt_judge(s: &[u8], at: usize, out: &mut [u64]) -> u32
     ensures answer { (out.new, result) ≡ judged_out out.old (judgement_at s.now at) }
 {
     match walk_judge::judge_record(s, at) {
-        JudgeAnswer::Refused(r) => mrt_lent::refusal(r),
-        JudgeAnswer::Record {
-            start,
-            header,
-            wire,
-            body,
-            end,
-        } => {
-            let v = mrt_lent::record_values(0, start, header, wire, body, end);
+        Err(r) => mrt_lent::refusal(r),
+        Ok(found) => {
+            let v = mrt_lent::record_values(0, found);
             mrt_lent::hand_out(out, &v[1..])
         }
     }
@@ -38,12 +30,12 @@ pub fn mrt_candidate(s: &[u8], at: usize, out: &mut [u64]) -> u32
         return mrt_lent::refusal(Refusal::Beyond);
     }
     match walk_candidate::candidate_at(s, at) {
-        CandidateAnswer::Fails => {
+        None => {
             let v = [0u64; 3];
             mrt_lent::hand_out(out, &v)
         }
-        CandidateAnswer::Stands { evidence, end } => {
-            let v = [1, evidence as u64, end as u64];
+        Some(found) => {
+            let v = [1, u8::from(found.evidence) as u64, found.end as u64];
             mrt_lent::hand_out(out, &v)
         }
     }
@@ -54,7 +46,7 @@ pub fn mrt_check_body(body: &[u8], kind: u16, subtype: u16, stored: u32) -> u32
     ensures answer { result ≡ check kind subtype stored body.now }
 {
     match walk_judge::check_body(body, kind, subtype, StoredLength(stored)) {
-        Outcome::Accepted => 0,
-        Outcome::Refused(r) => mrt_lent::refusal(r),
+        Ok(()) => 0,
+        Err(r) => mrt_lent::refusal(r),
     }
 }

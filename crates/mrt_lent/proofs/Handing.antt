@@ -1,16 +1,29 @@
 -- What is left in the places lent for values, and what is returned.
-use Prim.Native.Nat.{ℕ, ◌+◌, ◌<◌, ◌≤◌}
-use mathlib.Core.Path.{◌≡◌, sym, ◌∙◌, ap}
-use mathlib.Core.List.{List}
-use lib.ListN.{length, get_or, take, set}
+use Prim.Native.Nat.{ℕ, ◌+◌, ◌-◌, ◌<◌, ◌≤◌, min}
+use mathlib.Core.Path.{◌≡◌, refl, sym, ◌∙◌, ap}
+use mathlib.Core.List.{List, ◌++◌}
+use lib.ListN.{length, take, drop, get_or, set}
 use native.Mathlib.Nat.{zero-add}
+use lib.Seq.{length-take-le}
+use native.Mathlib.Nat.{le_of_eq}
+use native.Mathlib.Omega.{arith}
 use borrow.Author.Tests.{le-leb, lt-leb, ne_eqb}
 use Rattle.answer.specs.Refusal.{number_of}
 use Rattle.answer.specs.declared.Refusal.{Refusal}
 use Rattle.answer.proofs.Refusals.{number-not-zero}
 use Rattle.octets.specs.Octets.{patch}
-use Rattle.octets.proofs.Stores.{copy_turn}
+use Rattle.octets.proofs.Stores.{patch_front, copy_done, copy_turn}
 use Rattle.mrt_lent.specs.Export.{exported}
+
+-- values copied to the front, as many as there is room for
+pub front_stored : (s src : List ℕ) {m : ℕ} {t : List ℕ} → m ≡ min (length src) (length s) → t ≡ take m src
+    → t ++ drop m s ≡ patch s 0 src
+front_stored s src {m} {t} e h =
+    let l : length (take m src) ≡ m = length-take-le m src (omega arith) in
+    let room : length (take m src) ≤ length s = rw l (omega arith) in
+    let u : take m src ++ drop m s ≡ patch s 0 (take m src) = rw (patch_front s (take m src) room, l) refl in
+    let z : m ≡ min (length s - 0) (length src) = omega arith in
+    rw h (copy_done s src 0 (le_of_eq refl) (le_of_eq refl) z u)
 
 -- one turn of a copy to the front
 pub front_turn : (s src : List ℕ) (i : ℕ) {t : List ℕ} → i < length src → t ≡ patch s 0 (take i src)

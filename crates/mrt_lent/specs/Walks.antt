@@ -1,5 +1,8 @@
 -- A walk that is lent as two places (01, Walk, confirmation, scan): its position, and 1 where it is finished or 0 where it is not.
-use Rattle.std.specs.Prelude.{ℕ, List, Bool, ◌&&◌, cond, length, get_or, leb}
+use Rattle.std.specs.Prelude.{ℕ, List, Bool, ◌&&◌, cond, length, get_or, leb, eqb, Result, Ok, Err}
+use Rattle.answer.specs.declared.Refusal.{Refusal}
+use Rattle.answer.specs.declared.Refusal.TheVariants.{Beyond, NoRoom}
+use Rattle.walk.specs.declared.Walk.{Walk}
 
 -- the places ws hold a walk, at a position within n octets
 unfoldable pub holds_walk : ℕ → List ℕ → Bool
@@ -9,3 +12,11 @@ holds_walk n ws = leb 2 (length ws) && leb (get_or ws 1 0) 1 && leb (get_or ws 0
 -- fewer than 10 places, and where there is no such walk
 unfoldable pub on_walk : {A : Type 0} → ℕ → List ℕ → List ℕ → A → A → A → A
 on_walk n ws out served full lost = cond (holds_walk n ws) (cond (leb 10 (length out)) served full) lost
+
+-- the walk that they hold
+abbrev pub walk_in : List ℕ → Walk
+walk_in ws = record { position = get_or ws 0 0; finished = eqb (get_or ws 1 0) 1 }
+
+-- what a call over n octets, with so many places for its answer, learns of the walk in ws
+unfoldable pub lent_walk : ℕ → List ℕ → ℕ → Result Walk Refusal
+lent_walk n ws places = cond (holds_walk n ws) (cond (leb 10 places) (Ok (walk_in ws)) (Err NoRoom)) (Err Beyond)

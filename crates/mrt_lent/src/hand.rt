@@ -8,18 +8,14 @@ ghost use Rattle.mrt_lent.specs.Rows.{none_handed};
 use crate::Handed;
 use answer::Refusal;
 
-// The values at the front of the lent places, as far as there are places.
+// The values at the front of the lent places, as far as there are places. One by one: the library's copy is a call, which takes longer
+// than ten stores.
 pub fn put_values(out: &mut [u64], values: &[u64])
     ensures { out.new ≡ patch out.old 0 values.now }
 {
-    let mut m = values.len();
-    if out.len() < m {
-        m = out.len();
-    }
-    let mut i = 0;
-    while i < m {
+    let m = values.len().min(out.len());
+    for i in 0..m {
         out[i] = values[i];
-        i += 1;
     }
 }
 
@@ -28,7 +24,7 @@ pub fn hand_out(out: &mut [u64], values: &[u64]) -> u32
     ensures { (out.new, result) ≡ exported out.old 0 values.now }
 {
     if out.len() < values.len() {
-        return 9;
+        return refusal(Refusal::NoRoom);
     }
     put_values(out, values);
     0
@@ -38,17 +34,14 @@ pub fn hand_out(out: &mut [u64], values: &[u64]) -> u32
 pub fn refusal(r: Refusal) -> u32
     ensures { result ≡ number_of r }
 {
-    answer::number(r) as u32
+    u32::from(r)
 }
 
 // A truth value as a number.
 pub fn mark_of(b: bool) -> u64
     ensures { result ≡ mark b }
 {
-    if b {
-        return 1;
-    }
-    0
+    u64::from(b)
 }
 
 // Sixteen octets, of an address or a prefix.

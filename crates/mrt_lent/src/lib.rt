@@ -4,10 +4,12 @@
 #![tactic(auto)]
 
 mod hand;
+mod lent;
 mod record;
 mod writer;
 
 pub use hand::{hand_out, mark_of, none_handed, put_values, refusal, sixteen};
+pub use lent::lent_walk;
 pub use record::record_values;
 pub use writer::wrote_of;
 

@@ -4,18 +4,18 @@ ghost use Rattle.mrt_lent.specs.Writer.{wrote_of};
 
 use crate::Wrote;
 use crate::hand::refusal;
-use answer::Written;
+use answer::Refusal;
 
 // A writer's answer, as it is returned.
-pub fn wrote_of(w: Written) -> Wrote
+pub fn wrote_of(w: Result<usize, Refusal>) -> Wrote
     ensures { result ≡ wrote_of w }
 {
     match w {
-        Written::Octets(n) => Wrote {
+        Ok(n) => Wrote {
             octets: n as u64,
             refusal: 0,
         },
-        Written::Refused(r) => Wrote {
+        Err(r) => Wrote {
             octets: 0,
             refusal: refusal(r),
         },

@@ -1,16 +1,18 @@
 // Missing rows across the boundary.
 #![tactic(auto)]
 
-ghost use Rattle.std.specs.Prelude.{◌≡◌};
+ghost use Rattle.std.specs.Prelude.{◌≡◌, cond, Some, None};
 ghost use Rattle.octets.specs.Octets.{patch};
 ghost use Rattle.walk_missing.specs.Row.{told};
-ghost use Rattle.mrt_missing.specs.Missing.{counters_values, missing_values, missing_out};
+ghost use Rattle.mrt_missing.specs.Missing.{holds_counters, counters_in, counters_values, missing_values, missing_out};
 
-use mrt_lent::{mark_of, put_values};
+use answer::Refusal;
+use mrt_lent::{put_values, refusal};
 use walk_missing::{Counters, Missing};
 
 // A record by its type, subtype and body, with counters that are lent as four numbers. Room for what is told is asked for before
 // they are moved, so that nothing is lost.
+#[tactic(auto, unfolding(crate::specs::Missing::missing_out))]
 pub fn mrt_missing(
     body: &[u8],
     kind: u16,
@@ -21,53 +23,46 @@ pub fn mrt_missing(
     ensures answer { (counters.new, (out.new, result))
         ≡ missing_out body.now kind subtype counters.old out.old }
 {
-    if counters.len() < 4 {
-        return 8;
-    }
-    let tabled = counters[0];
-    let table = counters[1];
-    let dumped = counters[2];
-    let dump = counters[3];
-    if 1 < tabled {
-        return 8;
-    }
-    if 4294967295 < table {
-        return 8;
-    }
-    if 1 < dumped {
-        return 8;
-    }
-    if 65535 < dump {
-        return 8;
-    }
-    if out.len() < 3 {
-        return 9;
-    }
-    let last = table as u32;
-    let narrow = dump as u16;
-    let before = Counters {
-        tabled: tabled == 1,
-        table: last,
-        dumped: dumped == 1,
-        dump: narrow,
+    let Some(before) = lent_counters(counters) else {
+        return refusal(Refusal::Beyond);
     };
+    if out.len() < 3 {
+        return refusal(Refusal::NoRoom);
+    }
     let counted = walk_missing::count(before, kind, subtype, body);
-    let after = counted.counters;
-    let missing = counted.missing;
-    put_counters(counters, after);
-    put_missing(out, missing);
+    put_counters(counters, counted.counters);
+    put_missing(out, counted.missing);
     0
+}
+
+// The counters in four lent places, where each number is within its width.
+#[tactic(auto, unfolding(crate::specs::Missing::holds_counters))]
+fn lent_counters(counters: &[u64]) -> Option<Counters>
+    ensures { result ≡ cond (holds_counters counters.now) (Some (counters_in counters.now)) None }
+{
+    if counters.len() < 4 || 1 < counters[0] || 1 < counters[2] {
+        return None;
+    }
+    let table = u32::try_from(counters[1]).ok()?;
+    let dump = u16::try_from(counters[3]).ok()?;
+    Some(Counters {
+        tabled: counters[0] == 1,
+        table,
+        dumped: counters[2] == 1,
+        dump,
+    })
 }
 
 // The counters after a record.
 fn put_counters(counters: &mut [u64], c: Counters)
     ensures { counters.new ≡ patch counters.old 0 (counters_values c) }
 {
-    let tabled = mark_of(c.tabled);
-    let dumped = mark_of(c.dumped);
-    let table = c.table as u64;
-    let dump = c.dump as u64;
-    let v = [tabled, table, dumped, dump];
+    let v = [
+        u64::from(c.tabled),
+        u64::from(c.table),
+        u64::from(c.dumped),
+        u64::from(c.dump),
+    ];
     put_values(counters, &v);
 }
 
@@ -75,19 +70,10 @@ fn put_counters(counters: &mut [u64], c: Counters)
 fn put_missing(out: &mut [u64], missing: Missing)
     ensures { out.new ≡ patch out.old 0 (missing_values (told missing)) }
 {
-    match missing {
-        Missing::Nothing => {
-            let v = [0, 0, 0];
-            put_values(out, &v);
-        }
-        Missing::Repeat => {
-            let v = [1, 0, 1];
-            put_values(out, &v);
-        }
-        Missing::Rows(rows) => {
-            let missing = rows as u64;
-            let v = [1, missing, 0];
-            put_values(out, &v);
-        }
-    }
+    let v = match missing {
+        Missing::Nothing => [0, 0, 0],
+        Missing::Repeat => [1, 0, 1],
+        Missing::Rows(rows) => [1, u64::from(rows), 0],
+    };
+    put_values(out, &v);
 }

@@ -1,17 +1,18 @@
 -- What the exported calls answer, from what the functions that they ask answer.
-use Prim.Native.Nat.{ℕ, ◌%◌, ◌<◌, ◌≤◌}
+use Prim.Native.Nat.{ℕ, ◌%◌}
 use mathlib.Core.Path.{◌≡◌, refl, ◌∙◌, ap}
 use mathlib.Core.List.{[], List}
 use mathlib.Core.Bool.{Bool, true, false}
-use borrow.Author.Tests.{lt-ltb, le-ltb}
 use lib.ListN.{length}
 use lib.Dec.{ltb, eqb}
+use Rattle.std.specs.Prelude.{Result, Ok, Err}
+use Rattle.answer.specs.declared.Refusal.{Refusal}
 use Rattle.mrt_lent.specs.Export.{sixteen_of}
 use Rattle.peers_entry.specs.declared.Peer.{Peer}
 use Rattle.peers_slots.specs.Used.{wrong_count}
 use Rattle.peers_add.specs.Add.{adding, add_peer}
-use Rattle.peers_add.specs.declared.AddAnswer.{AddAnswer}
-use Rattle.peers_add.specs.declared.AddAnswer.TheVariants.{Known, Added, Refused}
+use Rattle.peers_add.specs.declared.PeerId.{PeerId}
+use Rattle.peers_add.specs.declared.PeerId.TheVariants.{Known, Added}
 use Rattle.peers_find.specs.Find.{Finding, look_up, find_peer}
 use Rattle.mrt_peers.specs.Add.{added_as, added_out, add_out}
 use Rattle.mrt_peers.specs.Given.{count_for, key_for, peer_for, fresh_of}
@@ -19,16 +20,6 @@ use Rattle.mrt_peers.specs.Find.{found_of, find_out}
 use Rattle.mrt_peers.specs.declared.Key.{Key}
 use Rattle.mrt_peers.specs.declared.Found.{Found}
 use Rattle.mrt_peers.specs.declared.Fresh.{Fresh}
-
--- ---- the count that goes with an address of n octets
-module _ (count n : ℕ) where
-  pub count_short : n < 16 → 65536 ≡ count_for count n
-  unfolding count_for
-  count_short h = simp (lt-ltb _ _ h)
-
-  pub count-whole : 16 ≤ n → count ≡ count_for count n
-  unfolding count_for
-  count-whole h = simp (le-ltb _ _ h)
 
 -- ---- what the helpers make of what is given
 module _ (count kind : ℕ) (addr : List ℕ) {n : ℕ} {l : List ℕ} (n-is : n ≡ count_for count (length addr)) (l-is : l ≡ sixteen_of addr) where
@@ -83,10 +74,10 @@ module _ (l : List Peer) (count kind : ℕ) (addr : List ℕ) where
       ∙ looks
 
 -- ---- a peer added
-same_answer : (r : AddAnswer) (l : List Peer) → (l, added_as (adding r [])) ≡ added_out (adding r l)
-same_answer (Known id) l = refl
-same_answer (Added id) l = refl
-same_answer (Refused why) l = refl
+same_answer : (r : Result PeerId Refusal) (l : List Peer) → (l, added_as (adding r [])) ≡ added_out (adding r l)
+same_answer (Ok (Known id)) l = refl
+same_answer (Ok (Added id)) l = refl
+same_answer (Err why) l = refl
 
 module _ (ys : List Peer) (count kind id : ℕ) (addr : List ℕ) (asn : ℕ) where
   adds : added_out (add_peer ys (count_for count (length addr)) (peer_for kind id addr asn)) ≡ add_out ys count kind id addr asn
@@ -99,7 +90,7 @@ module _ (ys : List Peer) (count kind id : ℕ) (addr : List ℕ) (asn : ℕ) wh
       by_size false e = simp e
 
   -- the slots l that the call leaves, and its answer n
-  pub add_out_lem : (f : Fresh) (r : AddAnswer) (l : List Peer) {n : Found} → f ≡ fresh_of count kind id addr asn
+  pub add_out_lem : (f : Fresh) (r : Result PeerId Refusal) (l : List Peer) {n : Found} → f ≡ fresh_of count kind id addr asn
       → adding r l ≡ add_peer ys f.count f.peer → n ≡ added_as (adding r []) → (l, n) ≡ add_out ys count kind id addr asn
   unfolding fresh_of
   add_out_lem f r l f-is r-is n-is =

@@ -5,23 +5,20 @@ ghost use Rattle.mrt_peers.specs.Add.{add_out, added_as};
 
 use crate::Found;
 use crate::given::fresh_of;
-use peers_add::AddAnswer;
+use answer::Refusal;
+use peers_add::PeerId;
 use peers_entry::Peer;
 
 // What adding answers, in numbers.
-fn added_as(a: AddAnswer) -> Found
+fn added_as(a: Result<PeerId, Refusal>) -> Found
     ensures { result ≡ added_as (adding a []) }
 {
     match a {
-        AddAnswer::Known(id) => Found {
+        Ok(PeerId::Known(id) | PeerId::Added(id)) => Found {
             refusal: 0,
             id: id as u32,
         },
-        AddAnswer::Added(id) => Found {
-            refusal: 0,
-            id: id as u32,
-        },
-        AddAnswer::Refused(r) => Found {
+        Err(r) => Found {
             refusal: mrt_lent::refusal(r),
             id: 0,
         },

@@ -5,19 +5,19 @@ ghost use Rattle.mrt_peers.specs.Find.{find_out, found_of};
 
 use crate::Found;
 use crate::given::key_for;
+use answer::Refusal;
 use peers_entry::Peer;
-use peers_find::FindAnswer;
 
 // What a lookup answers, in numbers.
-fn found_of(a: FindAnswer) -> Found
+fn found_of(a: Result<u16, Refusal>) -> Found
     ensures { result ≡ found_of (finding a) }
 {
     match a {
-        FindAnswer::Id(id) => Found {
+        Ok(id) => Found {
             refusal: 0,
             id: id as u32,
         },
-        FindAnswer::Refused(r) => Found {
+        Err(r) => Found {
             refusal: mrt_lent::refusal(r),
             id: 0,
         },

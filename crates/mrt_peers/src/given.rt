@@ -6,13 +6,11 @@ use crate::{Fresh, Key};
 use peers_entry::Peer;
 
 // The count, or one that no table has where the address has fewer than sixteen octets: the call then refuses 8.
+#[tactic(auto, unfolding(crate::specs::Given::count_for))]
 fn count_for(count: usize, n: usize) -> usize
     ensures { result ≡ count_for count n }
 {
-    if n < 16 {
-        return 65536;
-    }
-    count
+    if n < 16 { 65536 } else { count }
 }
 
 // What a lookup is asked.

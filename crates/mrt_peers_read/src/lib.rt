@@ -8,31 +8,23 @@ ghost use Rattle.mrt_peers_read.specs.Tables.{table_out};
 mod load;
 
 pub use load::mrt_load_peers;
-use peers_table::TableAnswer;
 
 // The head of a peer table whose body holds every declared peer.
 pub fn mrt_check_peers(body: &[u8], out: &mut [u64]) -> u32
     ensures answer { (out.new, result) ≡ table_out out.old (check_peers body.now) }
 {
     match peers_table::check_peers(body) {
-        TableAnswer::Refused(r) => mrt_lent::refusal(r),
-        TableAnswer::Table {
-            collector,
-            name,
-            length,
-            count,
-            first,
-            end,
-        } => {
+        Ok(head) => {
             let v = [
-                collector as u64,
-                name as u64,
-                length as u64,
-                count as u64,
-                first as u64,
-                end as u64,
+                head.collector as u64,
+                head.name as u64,
+                head.length as u64,
+                head.count as u64,
+                head.first as u64,
+                head.end as u64,
             ];
             mrt_lent::hand_out(out, &v)
         }
+        Err(r) => mrt_lent::refusal(r),
     }
 }

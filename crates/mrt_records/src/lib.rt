@@ -6,6 +6,7 @@ ghost use Rattle.std.specs.Prelude.{◌≡◌, ◌/◌, length};
 ghost use Rattle.mrt_lent.specs.Rows.{rows_from, rows_out};
 ghost use Rattle.mrt_records.specs.Records.{record_at, records_out};
 
+use header::Located;
 use mrt_lent::Handed;
 use walk_judge::Verdict;
 
@@ -22,24 +23,14 @@ pub fn mrt_records(s: &[u8], walk: &mut [u64], out: &mut [u64]) -> Handed
     ensures answer { (walk.new, (out.new, result))
         ≡ records_out s.now walk.old out.old }
 {
-    if walk.len() < 2 {
-        return mrt_lent::none_handed(8);
-    }
-    let position = walk[0] as usize;
-    let finished = walk[1];
-    if 1 < finished {
-        return mrt_lent::none_handed(8);
-    }
-    if s.len() < position {
-        return mrt_lent::none_handed(8);
-    }
-    if out.len() < 10 {
-        return mrt_lent::none_handed(9);
-    }
-    if finished == 1 {
+    let w = match mrt_lent::lent_walk(s.len(), walk, out.len()) {
+        Ok(w) => w,
+        Err(r) => return mrt_lent::none_handed(mrt_lent::refusal(r)),
+    };
+    if w.finished {
         return mrt_lent::none_handed(0);
     }
-    let taken = take_records(s, position, out);
+    let taken = take_records(s, w.position, out);
     walk[0] = taken.next as u64;
     Handed {
         count: taken.count,
@@ -57,22 +48,14 @@ fn take_records(s: &[u8], from: usize, out: &mut [u64]) -> Taken
     let mut at: usize = 0;
     let mut count: u64 = 0;
     while 10 <= n - at {
-        match walk_judge::judge_at(s, p) {
-            Verdict::Cut(_) => return Taken { count, next: p },
-            Verdict::Off { refusal: _, end: _ } => return Taken { count, next: p },
-            Verdict::Fit {
-                header,
-                wire,
-                body,
-                end,
-            } => {
-                let v = mrt_lent::record_values(1, p, header, wire, body, end);
-                mrt_lent::put_values(&mut out[at..], &v);
-                p = end;
-                at += 10;
-                count += 1;
-            }
-        }
+        let Verdict::Fit(frame) = walk_judge::judge_at(s, p) else {
+            return Taken { count, next: p };
+        };
+        let v = mrt_lent::record_values(1, Located { start: p, frame });
+        mrt_lent::put_values(&mut out[at..], &v);
+        p = frame.end;
+        at += 10;
+        count += 1;
     }
     Taken { count, next: p }
 }

@@ -6,24 +6,20 @@ ghost use Rattle.rib_head.specs.Age.{age_of};
 ghost use Rattle.rib_read.specs.Rib.{rib_of};
 ghost use Rattle.mrt_rib.specs.Bodies.{rib_out};
 
-use answer::Outcome;
+use answer::Refusal;
 use mrt_lent::{put_values, refusal};
 
 // The head of a RIB body, and its prefix in 16 octets.
+#[tactic(auto, unfolding(crate::specs::Bodies::rib_out))]
 pub fn mrt_read_rib(body: &[u8], subtype: u16, out: &mut [u64], prefix: &mut [u8]) -> u32
     ensures answer { (out.new, (prefix.new, result))
         ≡ rib_out out.old prefix.old (rib_of body.now subtype) }
 {
-    let rib = rib_read::read_rib(body, subtype);
-    let outcome = rib.outcome;
-    match outcome {
-        Outcome::Refused(r) => refusal(r),
-        Outcome::Accepted => {
-            if out.len() < 5 {
-                return 9;
-            }
-            if prefix.len() < 16 {
-                return 9;
+    match rib_read::read_rib(body, subtype) {
+        Err(r) => refusal(r),
+        Ok(rib) => {
+            if out.len() < 5 || prefix.len() < 16 {
+                return refusal(Refusal::NoRoom);
             }
             let v = [
                 rib.sequence as u64,

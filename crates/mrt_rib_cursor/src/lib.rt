@@ -1,29 +1,33 @@
 // The entries of RIB bodies across the boundary, by number and by a cursor.
-#![tactic(auto)]
+#![tactic(auto, using(mrt_lent::proofs::Handing::export_refused))]
 
 ghost use Rattle.std.specs.Prelude.{◌≡◌};
-ghost use Rattle.rib_entries.specs.Entry.{entry_of, first_of, next_of};
-ghost use Rattle.mrt_rib_cursor.specs.Entries.{entry_out, placed_out, step_out};
+ghost use Rattle.rib_entries.specs.Entry.{entry_values as entered, entry_of, first_of, next_of};
+ghost use Rattle.mrt_rib_cursor.specs.Entries.{entry_values, entry_out, placed_out, step_out};
 
 use mrt_lent::{hand_out, refusal};
-use rib_entries::{Cursor, CursorAnswer, EntryAnswer, NextAnswer};
+use rib_entries::{Cursor, Entry};
+
+// The values of an entry, in the order of its fields.
+pub fn entry_values(e: Entry) -> [u64; 5]
+    ensures { result ≡ entry_values (entered (Ok e)) }
+{
+    [
+        e.peer as u64,
+        e.originated as u64,
+        e.path as u64,
+        e.start as u64,
+        e.end as u64,
+    ]
+}
 
 // The entry i of a RIB body.
 pub fn mrt_rib_entry(body: &[u8], subtype: u16, i: usize, out: &mut [u64]) -> u32
     ensures answer { (out.new, result) ≡ entry_out out.old (entry_of body.now subtype i) }
 {
     match rib_entries::entry_at(body, subtype, i) {
-        EntryAnswer::Refused(r) => refusal(r),
-        EntryAnswer::Read(e) => {
-            let v = [
-                e.peer as u64,
-                e.originated as u64,
-                e.path as u64,
-                e.start as u64,
-                e.end as u64,
-            ];
-            hand_out(out, &v)
-        }
+        Err(r) => refusal(r),
+        Ok(e) => hand_out(out, &entry_values(e)),
     }
 }
 
@@ -32,13 +36,8 @@ pub fn mrt_rib_first(body: &[u8], subtype: u16, out: &mut [u64]) -> u32
     ensures answer { (out.new, result) ≡ placed_out out.old (first_of body.now subtype) }
 {
     match rib_entries::first_entry(body, subtype) {
-        CursorAnswer::Refused(r) => refusal(r),
-        CursorAnswer::At(c) => {
-            let at = c.at as u64;
-            let left = c.left as u64;
-            let v = [at, left];
-            hand_out(out, &v)
-        }
+        Err(r) => refusal(r),
+        Ok(c) => hand_out(out, &[c.at as u64, c.left as u64]),
     }
 }
 
@@ -48,23 +47,13 @@ pub fn mrt_rib_next(body: &[u8], subtype: u16, at: usize, left: u16, out: &mut [
         ≡ step_out out.old (next_of body.now subtype (record { at = at; left = left })) }
 {
     match rib_entries::next_entry(body, subtype, Cursor { at, left }) {
-        NextAnswer::Refused(r) => refusal(r),
-        NextAnswer::End => {
-            let v = [0u64; 8];
-            hand_out(out, &v)
-        }
-        NextAnswer::Entry { entry, cursor } => {
-            let v = [
-                1,
-                entry.peer as u64,
-                entry.originated as u64,
-                entry.path as u64,
-                entry.start as u64,
-                entry.end as u64,
-                cursor.at as u64,
-                cursor.left as u64,
-            ];
-            hand_out(out, &v)
+        Err(r) => refusal(r),
+        Ok(None) => hand_out(out, &[0; 8]),
+        Ok(Some(next)) => {
+            let [peer, originated, path, start, end] = entry_values(next.entry);
+            let at = next.cursor.at as u64;
+            let left = next.cursor.left as u64;
+            hand_out(out, &[1, peer, originated, path, start, end, at, left])
         }
     }
 }

@@ -6,8 +6,9 @@ ghost use Rattle.std.specs.Prelude.{◌≡◌, ◌/◌, length};
 ghost use Rattle.mrt_lent.specs.Rows.{rows_from, rows_out};
 ghost use Rattle.mrt_rib_entries.specs.Entries.{entries_out, entry_at};
 
-use mrt_lent::Handed;
-use rib_entries::{Cursor, NextAnswer};
+use answer::Refusal;
+use mrt_lent::{Handed, none_handed, refusal};
+use rib_entries::Cursor;
 
 // How many entries are handed out, and the cursor after them.
 #[derive(Clone, Copy)]
@@ -17,27 +18,27 @@ struct Taken {
 }
 
 // Entries from a lent cursor on, as long as there are entries and each has five places. The cursor is moved past them.
+#[tactic(auto, unfolding(crate::specs::Entries::entries_out, crate::specs::Entries::holds_cursor))]
 pub fn mrt_rib_entries(body: &[u8], subtype: u16, cursor: &mut [u64], out: &mut [u64]) -> Handed
     ensures answer { (cursor.new, (out.new, result))
         ≡ entries_out body.now subtype cursor.old out.old }
 {
     if cursor.len() < 2 {
-        return mrt_lent::none_handed(8);
+        return none_handed(refusal(Refusal::Beyond));
     }
     let at = cursor[0] as usize;
     let left = cursor[1];
     if 65535 < left {
-        return mrt_lent::none_handed(8);
+        return none_handed(refusal(Refusal::Beyond));
     }
     if body.len() < at {
-        return mrt_lent::none_handed(8);
+        return none_handed(refusal(Refusal::Beyond));
     }
-    let l = rib_head::layout_of(subtype);
-    if !l.carried {
-        return mrt_lent::none_handed(6);
+    if rib_head::layout_of(subtype).is_none() {
+        return none_handed(refusal(Refusal::OtherSubtype));
     }
     if out.len() < 5 {
-        return mrt_lent::none_handed(9);
+        return none_handed(refusal(Refusal::NoRoom));
     }
     let taken = take_entries(body, subtype, at, left as u16, out);
     let next = taken.next;
@@ -60,23 +61,16 @@ fn take_entries(body: &[u8], subtype: u16, at: usize, left: u16, out: &mut [u64]
     let mut place: usize = 0;
     let mut count: u64 = 0;
     while 5 <= n - place {
-        match rib_entries::next_entry(body, subtype, c) {
-            NextAnswer::Refused(_) => return Taken { count, next: c },
-            NextAnswer::End => return Taken { count, next: c },
-            NextAnswer::Entry { entry, cursor } => {
-                let v = [
-                    entry.peer as u64,
-                    entry.originated as u64,
-                    entry.path as u64,
-                    entry.start as u64,
-                    entry.end as u64,
-                ];
-                mrt_lent::put_values(&mut out[place..], &v);
-                c = cursor;
-                place += 5;
-                count += 1;
-            }
-        }
+        let next = match rib_entries::next_entry(body, subtype, c) {
+            Ok(Some(next)) => next,
+            Ok(None) => break,
+            Err(_) => break,
+        };
+        let v = mrt_rib_cursor::entry_values(next.entry);
+        mrt_lent::put_values(&mut out[place..], &v);
+        c = next.cursor;
+        place += 5;
+        count += 1;
     }
     Taken { count, next: c }
 }

@@ -5,10 +5,12 @@
 ghost use Rattle.std.specs.Prelude.{◌≡◌};
 ghost use Rattle.mrt_rib_rows.specs.Rows.{rows_out};
 
+use answer::Refusal;
 use mrt_lent::Handed;
-use rib_write::{Builder, RowsAnswer};
+use mrt_rib_build::{builder_in, builder_values};
 
 // Rows of entries where a builder stands, which is lent as its three values and moved.
+#[tactic(auto, unfolding(crate::specs::Rows::rows_out))]
 pub fn mrt_push_entries(
     out: &mut [u8],
     subtype: u16,
@@ -19,28 +21,15 @@ pub fn mrt_push_entries(
     ensures answer { (out.new, (builder.new, result))
         ≡ rows_out out.old subtype builder.old rows.now attributes.now }
 {
-    if builder.len() < 3 {
-        return mrt_lent::none_handed(8);
-    }
-    let count = builder[2];
-    if 65535 < count {
-        return mrt_lent::none_handed(8);
-    }
-    let b = Builder {
-        len: builder[0] as usize,
-        at: builder[1] as usize,
-        count: count as u16,
+    let Some(b) = builder_in(builder) else {
+        return mrt_lent::none_handed(mrt_lent::refusal(Refusal::Beyond));
     };
     match rib_write::push_entries(out, subtype, b, rows, attributes) {
-        RowsAnswer::Refused(r) => mrt_lent::none_handed(mrt_lent::refusal(r)),
-        RowsAnswer::Pushed {
-            builder: next,
-            rows: pushed,
-        } => {
-            let v = [next.len as u64, next.at as u64, next.count as u64];
-            mrt_lent::put_values(builder, &v);
+        Err(r) => mrt_lent::none_handed(mrt_lent::refusal(r)),
+        Ok(pushed) => {
+            mrt_lent::put_values(builder, &builder_values(pushed.builder));
             Handed {
-                count: pushed as u64,
+                count: pushed.rows as u64,
                 refusal: 0,
             }
         }

@@ -3,7 +3,7 @@ use Prim.Native.Nat.{ℕ}
 use mathlib.Core.Path.{◌≡◌, sym, ◌∙◌, ap}
 use mathlib.Core.List.{List, [], ◌∷◌}
 use Rattle.octets.specs.Octets.{patch}
-use Rattle.walk.specs.Step.{gap, refused}
+use Rattle.walk.specs.Step.{refused}
 use Rattle.walk_step.specs.Answers.{said}
 use Rattle.walk_step.specs.declared.WalkAnswer.{WalkAnswer}
 use Rattle.mrt_walk.specs.Next.{answer_values, answer_number, answer_out}
@@ -20,13 +20,8 @@ answered out {b = b} {n = n} given stored values number =
     (ap (λ (l : List ℕ). (l, n)) (stored ∙ ap (patch out 0) values)
     ∙ ap (λ (i : ℕ). (patch out 0 (answer_values (said b)), i)) number)
 
--- the values of a gap, r the number of its refusal, and those of a refusal with the number n
+-- the values of a refusal with the number n
 module _ (out : List ℕ) where
-  pub gap-stored : (a e v k : ℕ) {r i : ℕ} {t : List ℕ} → t ≡ patch out 0 (2 ∷ a ∷ e ∷ i ∷ v ∷ k ∷ []) → i ≡ r
-      → (t, 0) ≡ answer_out out (gap a e r v k)
-  gap-stored a e v k stored number =
-      ap (λ (l : List ℕ). (l, 0)) stored ∙ ap (λ (j : ℕ). (patch out 0 (2 ∷ a ∷ e ∷ j ∷ v ∷ k ∷ []), 0)) number
-
   pub refusal_stored : (n a w r : ℕ) {t : List ℕ} → t ≡ patch out 0 (4 ∷ a ∷ w ∷ r ∷ []) → (t, n) ≡ answer_out out (refused n a w r)
   refusal_stored n a w r stored = ap (λ (l : List ℕ). (l, n)) stored
 

@@ -4,7 +4,9 @@ use mathlib.Core.Path.{◌≡◌, refl, sym, ◌∙◌, ap, subst}
 use mathlib.Core.List.{List, [], ◌∷◌}
 use native.Mathlib.Omega.{arith}
 use lib.ListN.{length, get_or, set}
-use borrow.Author.Tests.{ne_eqb}
+use mathlib.Core.Bool.{false}
+use lib.Dec.{eqb}
+use borrow.Author.Tests.{eqb-false}
 use Rattle.octets.specs.Octets.{patch}
 use Rattle.rules.specs.Ask.{over}
 use Rattle.header.specs.Frame.{Framing}
@@ -16,9 +18,9 @@ use Rattle.walk_candidate.specs.Candidate.{candidate_at}
 use Rattle.walk_judge.proofs.Soundness.{Inside, inside}
 use Rattle.walk.proofs.Calls.{call-fit}
 use Rattle.mrt_lent.specs.Records.{record_values}
-use Rattle.mrt_lent.proofs.Walks.{walk_served}
+use Rattle.mrt_lent.proofs.Walks.{Held, walk_served}
 use Rattle.mrt_lent.specs.Export.{mark}
-use Rattle.mrt_walk.specs.Next.{walk_in, answer_out, stepped_out, next_out}
+use Rattle.mrt_walk.specs.Next.{answer_out, stepped_out, next_out}
 
 -- the walk v and the answer a are stored
 pub moved-stored : (ws out : List ℕ) (v : Walk) (a : Answer) {y : Stepped} {n : ℕ} {x : List ℕ × ℕ} → record { walk = v; answer = a } ≡ y
@@ -35,22 +37,28 @@ set_same [] n z = refl
 set_same (a ∷ []) n z = refl
 set_same (a ∷ b ∷ l) n z = let e : b ≡ 0 = z in rw e
 
--- a call on a walk that is lent, with room for an answer
-module _ (s ws out : List ℕ) (window k : ℕ)
-    (p : 2 ≤ length ws) (m : get_or ws 1 0 ≤ 1) (w : get_or ws 0 0 ≤ length s) (h : 10 ≤ length out) where
-  pub next-stepped : {x : List ℕ × (List ℕ × ℕ)} → x ≡ stepped_out ws out (over s (step judge_at candidate_at (walk_in ws) window k))
+-- a call on a walk v that is lent, with room for an answer
+module _ (s ws out : List ℕ) (window k : ℕ) {v : Walk} (h : Held (length s) ws out v) where
+  pub next-stepped : {x : List ℕ × (List ℕ × ℕ)} → x ≡ stepped_out ws out (over s (step judge_at candidate_at v window k))
       → x ≡ next_out s ws window k out
-  next-stepped q = q ∙ walk_served _ _ _ _ _ _ p m w h
+  next-stepped q =
+      q ∙ ap (λ (w : Walk). stepped_out ws out (over s (step judge_at candidate_at w window k))) h.is
+      ∙ walk_served _ _ _ h
 
   -- a record f that passes is handed out, and the mark stays
-  pub next-handed : get_or ws 1 0 ≡ 0 → (f : Framing) → fit f ≡ over s (judge_at (get_or ws 0 0))
-      → {t : List ℕ} → t ≡ patch out 0 (record_values (get_or ws 0 0) f) → (set ws 0 f.end, (t, 0)) ≡ next_out s ws window k out
-  next-handed z f q {t} stored =
-      let here : Inside (get_or ws 0 0) (length s) (fit f) =
-      subst (λ (j : Judged). Inside (get_or ws 0 0) (length s) j) (sym q) (inside s (get_or ws 0 0)) in
-      let unmarked = ne_eqb (get_or ws 1 0) 1 (λ (e : get_or ws 1 0 ≡ 1). omega arith) in
+  pub next-handed : v.finished ≡ false → (f : Framing) → fit f ≡ over s (judge_at v.position)
+      → {t : List ℕ} → t ≡ patch out 0 (record_values v.position f) → (set ws 0 f.end, (t, 0)) ≡ next_out s ws window k out
+  next-handed n f q {t} stored =
+      let i : v.position ≡ get_or ws 0 0 = ap (λ (w : Walk). w.position) h.is in
+      let m : eqb (get_or ws 1 0) 1 ≡ false = sym (ap (λ (w : Walk). w.finished) h.is) ∙ n in
+      let o = eqb-false (get_or ws 1 0) 1 m in
+      let l = h.marked in
+      let z : get_or ws 1 0 ≡ 0 = omega arith in
+      let within : v.position ≤ length s = let w = h.within in omega arith in
+      let here : Inside v.position (length s) (fit f) =
+      subst (λ (j : Judged). Inside v.position (length s) j) (sym q) (inside s v.position) in
       next-stepped
       (ap (λ (l : List ℕ). (l, (t, 0))) (set_same ws f.end z)
-      ∙ moved-stored ws out (at f.end) (handed (get_or ws 0 0) f)
-      (call-fit judge_at candidate_at s window k (walk_in ws) w unmarked (λ e. omega (arith, here.0, here.1)) f q)
+      ∙ moved-stored ws out (at f.end) (handed v.position f)
+      (call-fit judge_at candidate_at s window k v within n (λ e. omega (arith, here.0, here.1)) f q)
       refl (ap (λ (l : List ℕ). (l, 0)) stored))

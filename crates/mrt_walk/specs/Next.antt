@@ -1,7 +1,7 @@
 -- One call of the walk, exported (01, Walk, confirmation, scan). The walk is lent as two places: its position, and 1 where it
 -- is finished or 0 where it is not. The answer's kind comes first: 1 a record, 2 a gap, 3 the end, 4 the refusal of a window.
 -- 8 for no such walk or a position beyond the stream, then 9 for fewer than 10 places; both leave the walk and the places.
-use Rattle.std.specs.Prelude.{ℕ, List, [], ◌∷◌, length, get_or, eqb}
+use Rattle.std.specs.Prelude.{ℕ, List, [], ◌∷◌, length}
 use Rattle.octets.specs.Octets.{patch}
 use Rattle.rules.specs.Ask.{over}
 use Rattle.walk.specs.Step.{Answer, handed, gap, end, refused, Stepped, step}
@@ -10,11 +10,7 @@ use Rattle.walk_judge.specs.Record.{judge_at}
 use Rattle.walk_candidate.specs.Candidate.{candidate_at}
 use Rattle.mrt_lent.specs.Export.{mark}
 use Rattle.mrt_lent.specs.Records.{record_values}
-use Rattle.mrt_lent.specs.Walks.{on_walk}
-
--- the walk that they hold
-abbrev pub walk_in : List ℕ → Walk
-walk_in ws = record { position = get_or ws 0 0; finished = eqb (get_or ws 1 0) 1 }
+use Rattle.mrt_lent.specs.Walks.{walk_in, on_walk}
 
 -- the places of a walk
 abbrev pub walk_values : Walk → List ℕ

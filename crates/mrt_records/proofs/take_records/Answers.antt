@@ -1,4 +1,4 @@
-use Prim.Native.Nat.{◌+◌, ◌≤◌, ◌-◌}
+use Prim.Native.Nat.{◌+◌, ◌≤◌}
 use mathlib.Core.Path.{refl, sym, ◌∙◌, ap}
 use lib.ListN.{length}
 use native.Mathlib.Omega.{arith}
@@ -7,7 +7,7 @@ use Rattle.octets.proofs.Stores.{length-patch}
 use Rattle.octets.proofs.Parts.{patch_lent}
 use Rattle.mrt_lent.proofs.Rows.{rows_start, rows_turn, rows_full, rows_none}
 use Rattle.mrt_records.specs.Records.{record_at}
-use Rattle.mrt_records.proofs.Cases.{record_found}
+use Rattle.mrt_records.proofs.Cases.{record_found, record_none}
 use Rattle.mrt_records.proofs.take_records.Goals as goal
 
 pub loop-at-init : goal.loop-at-init
@@ -16,20 +16,12 @@ loop-at-init c = (omega arith, omega arith, refl, refl, rows_start _ _ _ _ _)
 pub overflow_sub-n : goal.overflow_sub-n
 overflow_sub-n c = omega arith
 
-pub shape_of-out-in-Cut : goal.shape_of-out-in-Cut
-shape_of-out-in-Cut c = c.loop-at.invariant.3 ∙ c.loop-at.invariant.2
+pub shape_of-out-in_default : goal.shape_of-out-in_default
+shape_of-out-in_default c = c.loop-at.invariant.3 ∙ c.loop-at.invariant.2
 
-pub returns-in-Cut : goal.returns-in-Cut
-returns-in-Cut c =
-    sym (rows_none (record_at _) 10 _ _ _ _ _ (record_found _ _ c.judge_at.ensures.answer c.in-Cut.is))
-    ∙ c.loop-at.invariant.4
-
-pub shape_of-out-in-Off : goal.shape_of-out-in-Off
-shape_of-out-in-Off c = c.loop-at.invariant.3 ∙ c.loop-at.invariant.2
-
-pub returns-in-Off : goal.returns-in-Off
-returns-in-Off c =
-    sym (rows_none (record_at _) 10 _ _ _ _ _ (record_found _ _ c.judge_at.ensures.answer c.in-Off.is))
+pub returns-in_default : goal.returns-in_default
+returns-in_default c =
+    sym (rows_none (record_at _) 10 _ _ _ _ _ (record_none _ _ c.judge_at.ensures.answer c.in_default.not-Fit))
     ∙ c.loop-at.invariant.4
 
 pub offset_bounds-out-at : goal.offset_bounds-out-at

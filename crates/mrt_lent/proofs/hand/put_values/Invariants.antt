@@ -5,8 +5,4 @@ use Rattle.octets.specs.Octets.{patch}
 use Rattle.mrt_lent.proofs.hand.put_values.Given as goal
 
 abbrev pub invariant-loop-i : goal.invariant-loop-i
-invariant-loop-i l =
-    (l.i ≤ l.m) × (l.m ≡ min (length l.initial.out - 0) (length l.values)) × (l.out ≡ patch l.initial.out 0 (take l.i l.values))
-
-abbrev pub decreases-loop-i : goal.decreases-loop-i
-decreases-loop-i l = l.m - l.i
+invariant-loop-i l = l.out ≡ patch l.initial.out 0 (take l.i l.values)

@@ -1,2 +1,0 @@
--- Counts: lent counters, and a record counted with them.
-pub mod Counts

@@ -1,2 +1,0 @@
--- Ribs: the cases of `mrt_read_rib`.
-pub mod Ribs

@@ -1,2 +1,0 @@
--- Builds: the cases of `mrt_push_entry`.
-pub mod Builds

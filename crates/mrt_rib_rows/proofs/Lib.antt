@@ -1,2 +1,0 @@
--- Pushes: the cases of `mrt_push_entries`.
-mod Pushes

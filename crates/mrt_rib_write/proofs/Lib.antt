@@ -1,2 +1,0 @@
--- Begins: the cases of `mrt_begin_rib`.
-pub mod Begins
