@@ -1,6 +1,6 @@
 -- A record that a call hands out lies in its stream, and so does the walk after the call.
 use Prim.Native.Nat.{ℕ, ◌≤◌}
-use mathlib.Core.Path.{◌≡◌, refl, sym, ◌∙◌, ap, subst}
+use mathlib.Core.Path.{◌≡◌, refl, sym, ap, subst}
 use mathlib.Core.Bool.{Bool, true, false}
 use mathlib.Core.List.{List}
 use lib.ListN.{length}
@@ -12,19 +12,7 @@ use Rattle.walk_judge.specs.Record.{judge_at}
 use Rattle.walk_judge.proofs.Soundness.{inside}
 use Rattle.walk_candidate.specs.Candidate.{candidate_at}
 use Rattle.walk_candidate.proofs.Candidates.{sound}
-use Rattle.walk_missing.specs.Row.{Counting}
-use Rattle.walk_missing.specs.declared.Counters.{Counters}
-use Rattle.walk_step.specs.Answers.{said}
-use Rattle.walk_step.specs.declared.WalkAnswer.{WalkAnswer}
-use Rattle.listing_lines.specs.Listing.{called, counting, Within}
-
--- an answer a that was seen to be b
-module _ (s : List ℕ) {a b : WalkAnswer} (q : a ≡ b) where
-  pub seen_lies : Within (length s) (said a) → Within (length s) (said b)
-  seen_lies = subst (λ (x : WalkAnswer). Within (length s) (said x)) q
-
-  pub seen-counted : (c : Counters) {x : Counting} → x ≡ counting s c (said b) → x ≡ counting s c (said a)
-  seen-counted c p = p ∙ ap (λ (x : WalkAnswer). counting s c (said x)) (sym q)
+use Rattle.listing_lines.specs.Listing.{called, Within}
 
 module _ (s : List ℕ) where
   by_call : (p : ℕ) (x : Stepped) → Call judge_at candidate_at s 1048576 3 p x → Within (length s) x.answer

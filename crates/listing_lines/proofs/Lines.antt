@@ -2,24 +2,17 @@
 use Prim.Native.Nat.{ℕ, suc, ◌+◌, ◌-◌, ◌*◌, ◌/◌, ◌<◌, ◌≤◌}
 use mathlib.Core.Path.{◌≡◌, refl, sym, ◌∙◌, ap, subst}
 use mathlib.Core.Bool.{true, false}
-use mathlib.Core.List.{List, [], ◌∷◌, ◌++◌, append-nil}
+use mathlib.Core.List.{List, [], ◌∷◌, append-nil}
 use native.Mathlib.Nat.{zero-add}
 use native.Mathlib.Omega.{arith}
 use lib.ListN.{length, length-append}
 use borrow.Author.Tests.{lt-ltb, le-ltb}
-use Rattle.octets.specs.Octets.{patch}
-use Rattle.answer.specs.Refusal.{number_of}
-use Rattle.answer.specs.declared.Refusal.{Refusal}
 use Rattle.walk.specs.Step.{Answer, handed, gap, end, refused, fresh_walk}
 use Rattle.walk.specs.Promises.{up_to, answers}
 use Rattle.walk.specs.declared.Walk.{Walk}
-use Rattle.walk_missing.specs.Row.{Counting, fresh_counters, told}
+use Rattle.walk_missing.specs.Row.{Counting, fresh_counters}
 use Rattle.walk_missing.specs.declared.Counters.{Counters}
-use Rattle.walk_missing.specs.declared.Missing.{Missing}
 use Rattle.walk_missing.proofs.Rows.{told-le}
-use Rattle.walk_step.specs.Answers.{said}
-use Rattle.walk_step.specs.declared.WalkAnswer.{WalkAnswer}
-use Rattle.walk_step.specs.declared.WalkAnswer.TheVariants.{Gap}
 use Rattle.listing_lines.specs.Listing.{wrote, fields, missing_line, lines, counting, lines_of, called, listing, listed, is_last}
 use Rattle.listing_lines.proofs.Texts.{wrote_run, wrote_none, wrote-le, length-fields-le}
 
@@ -44,27 +37,6 @@ length-lines-le (gap a e r v c) o h = omega (arith, length-fields-le 71 (a ∷ e
 length-lines-le (end a) o h = omega (arith, length-fields-le 69 (a ∷ []))
 length-lines-le (refused n a w r) o h = omega arith
 
--- the lines of what an answer was seen to be
-pub lines-seen : (s : List ℕ) (at : ℕ) (o : List ℕ) {a b : WalkAnswer} {t : List ℕ} {e : ℕ} → a ≡ b
-    → (t, e) ≡ wrote s at (lines (said b) o) → (t, e) ≡ wrote s at (lines (said a) o)
-lines-seen s at o q p = p ∙ ap (λ (x : WalkAnswer). wrote s at (lines (said x) o)) (sym q)
-
-pub gap-seen : (s : List ℕ) (at : ℕ) (o : List ℕ) {x : WalkAnswer} (a e : ℕ) (r : Refusal) (v c : ℕ) {n d : ℕ} {t : List ℕ}
-    → x ≡ Gap a e r v c → n ≡ number_of r → (t, d) ≡ wrote s at (fields 71 (a ∷ e ∷ n ∷ v ∷ c ∷ []))
-    → (t, d) ≡ wrote s at (lines (said x) o)
-unfolding lines
-gap-seen s at o a e r v c q k p = lines-seen s at o q (p ∙ ap (λ (n : ℕ). wrote s at (fields 71 (a ∷ e ∷ n ∷ v ∷ c ∷ []))) k)
-
--- a record of which nothing is told, and one of which m is
-module _ (s : List ℕ) (at : ℕ) (vs : List ℕ) (a : ℕ) {m b : Missing} (q : m ≡ b) {t : List ℕ} {e : ℕ} where
-  pub record_seen : (t, e) ≡ wrote s at (fields 82 vs ++ missing_line a (told b))
-      → (t, e) ≡ wrote s at (fields 82 vs ++ missing_line a (told m))
-  record_seen p = p ∙ ap (λ (x : Missing). wrote s at (fields 82 vs ++ missing_line a (told x))) (sym q)
-
-  pub record_plain : told b ≡ [] → (t, e) ≡ wrote s at (fields 82 vs) → (t, e) ≡ wrote s at (fields 82 vs ++ missing_line a (told m))
-  unfolding missing_line
-  record_plain n p = record_seen (rw (n, append-nil) p)
-
 up_to_on : (a : Answer) (l : List Answer) → is_last a ≡ false → up_to a l ≡ a ∷ l
 unfolding up_to
 up_to_on (handed a f) l h = refl
@@ -83,54 +55,55 @@ up_to-last (refused n a w r) l h = refl
 abbrev pub text : List ℕ → ℕ → Walk → Counters → List ℕ
 text s m w c = lines_of s c (answers (called s) m w)
 
--- no call is left
-pub text_over : (s : List ℕ) (m : ℕ) (w : Walk) (c : Counters) (out : List ℕ) (at : ℕ) → m ≤ 0 → (out, at) ≡ wrote out at (text s m w c)
+-- no call of n is left after i
+pub text_over : (s : List ℕ) (n i : ℕ) (w : Walk) (c : Counters) (out : List ℕ) (at : ℕ) → n ≤ i
+    → (out, at) ≡ wrote out at (text s (n - i) w c)
 unfolding answers lines_of
-text_over s m w c out at h = let z : m ≡ 0 = omega arith in rw z (sym (wrote_none out at))
+text_over s n i w c out at h = let z : n - i ≡ 0 = omega arith in rw z (sym (wrote_none out at))
 
--- one call, whose lines are written straight after what stands there; d are the counters after it, o is what was told
-module _ (s : List ℕ) (m : ℕ) (w : Walk) (c : Counters) (out : List ℕ) (at : ℕ) (v : Walk) (a : Answer)
+-- one call of n after i, whose lines are written straight after what stands there; d are the counters after it, o is what was told
+module _ (s : List ℕ) (n i : ℕ) (w : Walk) (c : Counters) (out : List ℕ) (at : ℕ) (v : Walk) (a : Answer)
     (q : record { walk = v; answer = a } ≡ called s w) (d : Counters) (o : List ℕ)
     (k : record { counters = d; told = o } ≡ counting s c a) where
-  text_first : (j : ℕ) → m ≡ suc j → text s m w c ≡ lines_of s c (up_to a (answers (called s) j v))
+  text_first : i < n → text s (n - i) w c ≡ lines_of s c (up_to a (answers (called s) (n - (i + 1)) v))
   unfolding answers
-  text_first j z = rw (z, ← q)
+  text_first h = let z : n - i ≡ suc (n - (i + 1)) = omega arith in rw (z, ← q)
 
-  module _ {t : List ℕ} {e : ℕ} (h : 0 < m) (p : (t, e) ≡ wrote out at (lines a o)) where
+  module _ {t : List ℕ} {e : ℕ} (h : i < n) (p : (t, e) ≡ wrote out at (lines a o)) where
     -- where they end
     pub text_le : e ≤ at + 151
     text_le =
         let l : length o ≤ 2 = subst (λ (x : Counting). length x.told ≤ 2) (sym k) (length-told-le s c a) in
         wrote-le out at (lines a o) 151 (length-lines-le a o l) p
 
-    pub text_next : is_last a ≡ false → wrote t e (text s (m - 1) v d) ≡ wrote out at (text s m w c)
+    pub text_next : is_last a ≡ false → wrote t e (text s (n - (i + 1)) v d) ≡ wrote out at (text s (n - i) w c)
     unfolding lines_of
     text_next g =
-        wrote_run out at (lines a o) (text s (m - 1) v d) p
-        ∙ rw (text_first (m - 1) (omega arith), up_to_on a (answers (called s) (m - 1) v) g, ← k)
+        wrote_run out at (lines a o) (text s (n - (i + 1)) v d) p
+        ∙ rw (text_first h, up_to_on a (answers (called s) (n - (i + 1)) v) g, ← k)
 
-    pub text_last : is_last a ≡ true → (t, e) ≡ wrote out at (text s m w c)
+    pub text_last : is_last a ≡ true → (t, e) ≡ wrote out at (text s (n - i) w c)
     unfolding lines_of
-    text_last g = p ∙ rw (text_first (m - 1) (omega arith), up_to-last a (answers (called s) (m - 1) v) g, ← k, append-nil)
+    text_last g = p ∙ rw (text_first h, up_to-last a (answers (called s) (n - (i + 1)) v) g, ← k, append-nil)
 
--- a text from the front on
-front : (s xs : List ℕ) → wrote s 0 xs ≡ (patch s 0 xs, length xs)
-unfolding wrote
-front s xs = rw zero-add
-
-module _ (s out : List ℕ) where
-  pub list_long : {t : List ℕ} {e : ℕ} → 65536 < length s → (t, e) ≡ wrote out 0 (fields 76 (65536 ∷ [])) → (t, e) ≡ listed s out
+module _ (s out : List ℕ) (at : ℕ) where
+  pub list_long : {t : List ℕ} {e : ℕ} → 65536 < length s → (t, e) ≡ wrote out at (fields 76 (65536 ∷ []))
+      → (t, e) ≡ wrote out at (listing s)
   unfolding listing
-  list_long h p = p ∙ front out _ ∙ rw (lt-ltb 65536 (length s) h)
+  list_long h p = rw (lt-ltb 65536 (length s) h) p
 
   pub list_short : (w : Walk) (c : Counters) {t u : List ℕ} {d e : ℕ} → length s ≤ 65536 → w ≡ fresh_walk → c ≡ fresh_counters
-      → (t, d) ≡ wrote out 0 (fields 72 (length s ∷ 1048576 ∷ 3 ∷ []))
-      → (u, e) ≡ wrote t d (text s (2 * (length s / 12) + 2) w c) → (u, e) ≡ listed s out
+      → (t, d) ≡ wrote out at (fields 72 (length s ∷ 1048576 ∷ 3 ∷ []))
+      → (u, e) ≡ wrote t d (text s (2 * (length s / 12) + 2) w c) → (u, e) ≡ wrote out at (listing s)
   unfolding listing
   list_short w c {t} {d = d} h f g p q =
       q
       ∙ ap (λ (x : Walk). wrote t d (text s (2 * (length s / 12) + 2) x c)) f
       ∙ ap (λ (x : Counters). wrote t d (text s (2 * (length s / 12) + 2) fresh_walk x)) g
-      ∙ wrote_run out 0 (fields 72 (length s ∷ 1048576 ∷ 3 ∷ [])) (text s (2 * (length s / 12) + 2) fresh_walk fresh_counters) p
-      ∙ front out _
+      ∙ wrote_run out at (fields 72 (length s ∷ 1048576 ∷ 3 ∷ [])) (text s (2 * (length s / 12) + 2) fresh_walk fresh_counters) p
       ∙ rw (le-ltb 65536 (length s) h)
+
+-- a listing from the front on
+pub list_front : (s out : List ℕ) → wrote out 0 (listing s) ≡ listed s out
+unfolding wrote
+list_front s out = rw zero-add

@@ -31,11 +31,6 @@ pub wrote_octet : (s : List ℕ) (at v : ℕ) {t : List ℕ} → t ≡ patch s a
 unfolding wrote
 wrote_octet s at v p = rw p
 
--- one octet after a text
-pub wrote-last : (s : List ℕ) (at : ℕ) (xs : List ℕ) (v : ℕ) {t u : List ℕ} {e : ℕ} → (t, e) ≡ wrote s at xs → u ≡ patch t e (v ∷ [])
-    → (u, e + 1) ≡ wrote s at (xs ++ (v ∷ []))
-wrote-last s at xs v {t} {u} {e} p q = wrote_octet t e v q ∙ wrote_run s at xs (v ∷ []) p
-
 -- where a text ends
 pub wrote-end : (s : List ℕ) (at : ℕ) (xs : List ℕ) {t : List ℕ} {e : ℕ} → (t, e) ≡ wrote s at xs → e ≡ at + length xs
 unfolding wrote
@@ -76,8 +71,8 @@ decimal_enough (suc k) v h = by_test (ltb v 10) refl (decimal_enough k (v / 10))
         decimal_large (suc (suc k)) v l ∙ rw (r d) (sym (decimal_large (suc k) v l))
 
 module _ (s : List ℕ) (at v : ℕ) where
-  pub decimal-first : {t : List ℕ} → v < 10 → t ≡ patch s at ((48 + v) ∷ []) → (t, at + 1) ≡ wrote s at (decimal 20 v)
-  decimal-first h p = rw (decimal_small 19 v h) (wrote_octet s at (48 + v) p)
+  pub decimal-first : {t : List ℕ} {e : ℕ} → v < 10 → (t, e) ≡ wrote s at ((48 + v) ∷ []) → (t, e) ≡ wrote s at (decimal 20 v)
+  decimal-first h p = p ∙ ap (wrote s at) (sym (decimal_small 19 v h))
 
   module _ (h : 10 ≤ v) (f : v < 18446744073709551616) where
     before : decimal 20 (v / 10) ≡ decimal 19 (v / 10)
@@ -86,14 +81,14 @@ module _ (s : List ℕ) (at v : ℕ) where
     pub decimal_before_lt : {t : List ℕ} {e : ℕ} → (t, e) ≡ wrote s at (decimal 20 (v / 10)) → e < at + 20
     decimal_before_lt p = omega (arith, wrote-end s at _ p, ap length before, length-decimal-le 19 (v / 10))
 
-    pub decimal-next : {t u : List ℕ} {e : ℕ} → (t, e) ≡ wrote s at (decimal 20 (v / 10)) → u ≡ patch t e ((48 + v % 10) ∷ [])
-        → (u, e + 1) ≡ wrote s at (decimal 20 v)
-    decimal-next p q = wrote-last s at _ _ p q ∙ ap (wrote s at) (rw before (sym (decimal_large 19 v h)))
+    pub decimal-next : {t u : List ℕ} {d e : ℕ} → (t, d) ≡ wrote s at (decimal 20 (v / 10)) → (u, e) ≡ wrote t d ((48 + v % 10) ∷ [])
+        → (u, e) ≡ wrote s at (decimal 20 v)
+    decimal-next p q = q ∙ wrote_run s at _ _ p ∙ ap (wrote s at) (rw before (sym (decimal_large 19 v h)))
 
-  pub field-done : {t u : List ℕ} {e : ℕ} → t ≡ patch s at (9 ∷ []) → (u, e) ≡ wrote t (at + 1) (decimal 20 v)
+  pub field-done : {t u : List ℕ} {d e : ℕ} → (t, d) ≡ wrote s at (9 ∷ []) → (u, e) ≡ wrote t d (decimal 20 v)
       → (u, e) ≡ wrote s at (field v)
   unfolding field
-  field-done p q = q ∙ wrote_run s at (9 ∷ []) (decimal 20 v) (wrote_octet s at 9 p)
+  field-done p q = q ∙ wrote_run s at (9 ∷ []) (decimal 20 v) p
 
 pub length-field-le : (v : ℕ) → length (field v) ≤ 21
 unfolding field
@@ -115,13 +110,13 @@ module _ (vs : List ℕ) (i : ℕ) where
   unfolding rest
   rest-next s at h p = wrote_run s at _ (rest (drop (i + 1) vs)) p ∙ rw (add-one, drop-cons vs i 0 h)
 
-  pub rest-done : (s : List ℕ) (at : ℕ) {t : List ℕ} → length vs ≤ i → t ≡ patch s at (10 ∷ [])
-      → (t, at + 1) ≡ wrote s at (rest (drop i vs))
+  pub rest-done : (s : List ℕ) (at : ℕ) {t : List ℕ} {e : ℕ} → length vs ≤ i → (t, e) ≡ wrote s at (10 ∷ [])
+      → (t, e) ≡ wrote s at (rest (drop i vs))
   unfolding rest
-  rest-done s at h p = rw (drop_of_length-le vs h) (wrote_octet s at 10 p)
+  rest-done s at h p = rw (drop_of_length-le vs h) p
 
 -- a line: its letter, and the rest
-pub fields-done : (s : List ℕ) (at letter : ℕ) (vs : List ℕ) {t : List ℕ} → t ≡ patch s at (letter ∷ [])
-    → wrote t (at + 1) (rest vs) ≡ wrote s at (fields letter vs)
+pub fields-done : (s : List ℕ) (at letter : ℕ) (vs : List ℕ) {t : List ℕ} {e : ℕ} → (t, e) ≡ wrote s at (letter ∷ [])
+    → wrote t e (rest vs) ≡ wrote s at (fields letter vs)
 unfolding fields
-fields-done s at letter vs p = wrote_run s at (letter ∷ []) (rest vs) (wrote_octet s at letter p)
+fields-done s at letter vs p = wrote_run s at (letter ∷ []) (rest vs) p

@@ -5,10 +5,9 @@ use crate::{dumps, headers, missing, peers, ribs, walks};
 
 // Whether a line's question is answered as it should be. Its first sign says who answered it, `C` or `R`.
 pub(crate) fn ask_line(line: &[u8], rec: &mut [u8], out: &mut [u8]) -> bool {
-    let n = decode(line, rec);
-    if rec.len() < n {
+    let Some(n) = decode(line, rec) else {
         return false;
-    }
+    };
     ask(part(rec, 0, n), out)
 }
 
@@ -20,15 +19,16 @@ fn ask(rec: &[u8], out: &mut [u8]) -> bool {
     let a = part(rec, 10, first);
     let b = part(rec, 10 + first, second);
     let x = part(rec, 10 + first + second, third);
-    let m = answer(octets::octet(rec, 0), a, b, x, out);
-    if out.len() < m {
+    let Some(m) = answer(octets::octet(rec, 0), a, b, x, out) else {
         return false;
-    }
-    part(rec, 10 + first + second + third, rec.len()) == part(out, 0, m)
+    };
+    let expected = part(rec, 10 + first + second + third, rec.len());
+    m <= out.len() && expected == part(out, 0, m)
 }
 
-fn answer(call: u8, a: &[u8], b: &[u8], x: &[u8], out: &mut [u8]) -> usize {
-    match call {
+// How long the answer of a call is, where there is a call of that number. The number comes from the list.
+fn answer(call: u8, a: &[u8], b: &[u8], x: &[u8], out: &mut [u8]) -> Option<usize> {
+    let m = match call {
         1 => headers::read(a, x, out),
         2 => headers::frame(a, x, out),
         3 => headers::write(a, x, out),
@@ -51,6 +51,7 @@ fn answer(call: u8, a: &[u8], b: &[u8], x: &[u8], out: &mut [u8]) -> usize {
         20 => dumps::read(a, x, out),
         21 => dumps::write(a, b, x, out),
         22 => missing::count(a, x, out),
-        _ => usize::MAX,
-    }
+        _ => return None,
+    };
+    Some(m)
 }

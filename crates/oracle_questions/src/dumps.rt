@@ -1,30 +1,33 @@
 // TABLE_DUMP bodies, read and written.
 use crate::headers::put_written;
-use crate::put::{lend, numbers, part, sixteen};
-use crate::ribs::outcome_number;
+use crate::put::{lend, numbers, part, refused, sixteen};
 use dump_layout::Dump;
 
 // x: the subtype.
 pub(crate) fn read(a: &[u8], x: &[u8], out: &mut [u8]) -> usize {
-    let r = dump_read::read_dump(a, octets::be16(x, 6));
-    let d = r.dump;
-    let prefix = d.prefix;
-    let peer = d.peer;
-    let outcome = r.outcome;
-    let values = [
-        outcome_number(outcome) as usize,
-        d.view as usize,
-        d.sequence as usize,
-        d.bits as usize,
-        d.status as usize,
-        d.originated as usize,
-        d.asn as usize,
-        r.start,
-        r.end,
-    ];
-    let p = numbers(out, 0, &values);
-    let q = sixteen(out, p, &prefix);
-    sixteen(out, q, &peer)
+    match dump_read::read_dump(a, octets::be16(x, 6)) {
+        Err(r) => {
+            let p = refused(out, 0, r);
+            numbers(out, p, &[0; 12])
+        }
+        Ok(found) => {
+            let d = found.dump;
+            let values = [
+                0,
+                d.view as usize,
+                d.sequence as usize,
+                d.bits as usize,
+                d.status as usize,
+                d.originated as usize,
+                d.asn as usize,
+                found.start,
+                found.end,
+            ];
+            let p = numbers(out, 0, &values);
+            let q = sixteen(out, p, &d.prefix);
+            sixteen(out, q, &d.peer)
+        }
+    }
 }
 
 // a: the output before. b: the prefix, the peer's address, the attributes. x: subtype, view, sequence, prefix bits, status,

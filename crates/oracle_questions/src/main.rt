@@ -13,7 +13,6 @@ mod walks;
 
 ghost use Rattle.std.specs.Prelude.{◌≤◌, length};
 
-use crate::put::sum;
 use std::env::{Env, FillError};
 use std::fs;
 use std::fs::Files;
@@ -26,45 +25,37 @@ const QUESTION: usize = 1179648;
 
 const ANSWER: usize = 589824;
 
+#[derive(Drop)]
+struct Rooms<'a> {
+    list: &'a mut [u8; LIST],
+    rec: &'a mut [u8; QUESTION],
+    out: &'a mut [u8; ANSWER],
+}
+
 fn main(rt: HostRuntime) {
     let mut list = [0u8; LIST];
     let mut rec = [0u8; QUESTION];
     let mut out = [0u8; ANSWER];
-    replay(&rt, &mut list, &mut rec, &mut out);
-}
-
-fn replay<R: Env + Files + Print>(
-    rt: &R,
-    list: &mut [u8; LIST],
-    rec: &mut [u8; QUESTION],
-    out: &mut [u8; ANSWER],
-) {
-    replay_lists(rt, arg_count(rt), list, rec, out);
+    let mut rooms = Rooms {
+        list: &mut list,
+        rec: &mut rec,
+        out: &mut out,
+    };
+    replay_lists(&rt, arg_count(&rt), &mut rooms);
 }
 
 // The first word of a command line is the program's own name.
-fn replay_lists<R: Env + Files + Print>(
-    rt: &R,
-    words: usize,
-    list: &mut [u8],
-    rec: &mut [u8],
-    out: &mut [u8],
-) {
-    let mut i = 1;
-    while i < words {
-        replay_list(rt, i, list, rec, out);
-        i += 1;
+fn replay_lists<R: Env + Files + Print>(rt: &R, words: usize, rooms: &mut Rooms) {
+    for i in 1..words {
+        replay_list(rt, i, rooms);
     }
 }
 
 // A write that fails shows nowhere.
-fn replay_list<R: Env + Files + Print>(
-    rt: &R,
-    i: usize,
-    list: &mut [u8],
-    rec: &mut [u8],
-    out: &mut [u8],
-) {
+fn replay_list<R: Env + Files + Print>(rt: &R, i: usize, rooms: &mut Rooms) {
+    let list = &mut *rooms.list;
+    let rec = &mut *rooms.rec;
+    let out = &mut *rooms.out;
     let n = read_list(rt, i, list);
     let lines = ask_lines(rt, &list[..n], rec, out);
     let _ = println!(rt; " {lines}");
@@ -120,31 +111,17 @@ fn arg_count<R: Env>(rt: &R) -> usize {
 fn arg<R: Env>(rt: &R, i: usize, room: &mut [u8]) -> usize
     ensures { result ≤ length room.new }
 {
-    match rt.arg(i, room) {
-        Ok(n) => n,
-        Err(_) => 0,
-    }
+    rt.arg(i, room).unwrap_or(0)
 }
 
 // Each line of a list: those that are answered otherwise are named, and the answer is how many lines there are.
 fn ask_lines<P: Print>(rt: &P, list: &[u8], rec: &mut [u8], out: &mut [u8]) -> usize {
-    let n = list.len();
-    let mut lines = 0;
-    let mut at = 0;
-    while at < n {
-        let end = text::line_end(list, at);
-        lines = sum(lines, 1);
-        if !ask::ask_line(&list[at..end], rec, out) {
-            report(rt, lines);
+    let mut lines: usize = 0;
+    for line in list.split_inclusive(|c| *c == b'\n') {
+        lines = lines.saturating_add(1);
+        if !ask::ask_line(line, rec, out) {
+            let _ = print!(rt; " line {lines} differs,");
         }
-        if n <= end {
-            return lines;
-        }
-        at = end + 1;
     }
     lines
-}
-
-fn report<P: Print>(rt: &P, line: usize) {
-    let _ = print!(rt; " line {line} differs,");
 }

@@ -14,15 +14,13 @@ pub(crate) fn count(a: &[u8], x: &[u8], out: &mut [u8]) -> usize {
     let r = walk_missing::count(before, octets::be16(x, 38), octets::be16(x, 46), a);
     let c = r.counters;
     let counters = [
-        c.tabled as usize,
+        usize::from(c.tabled),
         c.table as usize,
-        c.dumped as usize,
+        usize::from(c.dumped),
         c.dump as usize,
     ];
     let p = numbers(out, 0, &counters);
-    let missing = r.missing;
-    let told = told(missing);
-    put_told(out, p, &told)
+    numbers(out, p, &told(r.missing))
 }
 
 fn told(missing: Missing) -> [usize; 3] {
@@ -31,8 +29,4 @@ fn told(missing: Missing) -> [usize; 3] {
         Missing::Repeat => [1, 0, 1],
         Missing::Rows(rows) => [1, rows as usize, 0],
     }
-}
-
-fn put_told(out: &mut [u8], at: usize, values: &[usize; 3]) -> usize {
-    numbers(out, at, values)
 }

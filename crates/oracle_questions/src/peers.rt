@@ -1,44 +1,37 @@
 // Peer tables, and one peer at a time.
 use crate::put::{lend, number, numbers, refused, sixteen};
-use crate::ribs::outcome_number;
+use answer::Refusal;
 use peers_entry::{Peer, PeerRead};
-use peers_table::TableAnswer;
+use peers_table::TableHead;
 
-fn put_read(out: &mut [u8], at: usize, r: PeerRead) -> usize {
-    let p = r.peer;
-    let addr = p.addr;
-    let outcome = r.outcome;
-    let values = [
-        outcome_number(outcome) as usize,
-        p.kind as usize,
-        p.id as usize,
-        p.asn as usize,
-        r.next,
-    ];
-    let q = numbers(out, at, &values);
-    sixteen(out, q, &addr)
+fn put_read(out: &mut [u8], at: usize, found: Result<PeerRead, Refusal>) -> usize {
+    match found {
+        Err(r) => {
+            let p = refused(out, at, r);
+            numbers(out, p, &[0; 6])
+        }
+        Ok(read) => {
+            let p = read.peer;
+            let values = [0, p.kind as usize, p.id as usize, p.asn as usize, read.next];
+            let q = numbers(out, at, &values);
+            sixteen(out, q, &p.addr)
+        }
+    }
 }
 
 // The table's head alone.
 pub(crate) fn check(a: &[u8], out: &mut [u8]) -> usize {
     match peers_table::check_peers(a) {
-        TableAnswer::Refused(r) => refused(out, 0, r),
-        TableAnswer::Table {
-            collector,
-            name,
-            length,
-            count,
-            first,
-            end,
-        } => {
+        Err(r) => refused(out, 0, r),
+        Ok(t) => {
             let values = [
                 0,
-                collector as usize,
-                name,
-                length,
-                count as usize,
-                first,
-                end,
+                t.collector as usize,
+                t.name,
+                t.length,
+                t.count as usize,
+                t.first,
+                t.end,
             ];
             numbers(out, 0, &values)
         }
@@ -48,27 +41,18 @@ pub(crate) fn check(a: &[u8], out: &mut [u8]) -> usize {
 // Every peer of a table that passes its check.
 pub(crate) fn table(a: &[u8], out: &mut [u8]) -> usize {
     match peers_table::check_peers(a) {
-        TableAnswer::Refused(r) => refused(out, 0, r),
-        TableAnswer::Table {
-            collector: _,
-            name: _,
-            length: _,
-            count,
-            first,
-            end: _,
-        } => put_peers(out, a, first, count),
+        Err(r) => refused(out, 0, r),
+        Ok(t) => put_peers(out, a, t),
     }
 }
 
-fn put_peers(out: &mut [u8], a: &[u8], first: usize, count: u16) -> usize {
+fn put_peers(out: &mut [u8], a: &[u8], t: TableHead) -> usize {
     let mut p = 0;
-    let mut at = first;
-    let mut i = 0;
-    while i < count {
-        let r = peers_entry::read_peer(a, at);
-        p = put_read(out, p, r);
-        at = r.next;
-        i += 1;
+    let mut at = t.first;
+    for _ in 0..t.count {
+        let found = peers_entry::read_peer(a, at);
+        p = put_read(out, p, found);
+        at = found.map_or(0, |read| read.next);
     }
     p
 }
@@ -90,6 +74,5 @@ pub(crate) fn write(a: &[u8], b: &[u8], x: &[u8], out: &mut [u8]) -> usize {
     };
     let n = lend(out, a);
     let next = peers_entry::put_peer(&mut out[..n], number(x, 0), p);
-    let values = [next];
-    numbers(out, n, &values)
+    numbers(out, n, &[next])
 }

@@ -4,37 +4,26 @@ ghost use Rattle.std.specs.Prelude.{◌≤◌, length};
 
 use answer::Refusal;
 
-// Both numbers, or the largest.
-pub(crate) fn sum(a: usize, b: usize) -> usize {
-    if usize::MAX - b < a {
-        return usize::MAX;
-    }
-    a + b
-}
-
 fn put(out: &mut [u8], at: usize, v: usize) -> usize {
-    octets::put_be32(out, at, (v / 4294967296) as u32);
-    octets::put_be32(out, sum(at, 4), (v % 4294967296) as u32);
-    sum(at, 8)
+    octets::put(out, at, v.to_be_bytes());
+    at.saturating_add(8)
 }
 
 pub(crate) fn numbers(out: &mut [u8], at: usize, values: &[usize]) -> usize {
     let mut p = at;
-    let mut i = 0;
-    while i < values.len() {
-        p = put(out, p, values[i]);
-        i += 1;
+    for v in values {
+        p = put(out, p, *v);
     }
     p
 }
 
 pub(crate) fn refused(out: &mut [u8], at: usize, why: Refusal) -> usize {
-    put(out, at, answer::number(why) as usize)
+    put(out, at, u8::from(why) as usize)
 }
 
 pub(crate) fn sixteen(out: &mut [u8], at: usize, v: &[u8; 16]) -> usize {
     octets_copies::put_octets(out, at, v);
-    sum(at, 16)
+    at.saturating_add(16)
 }
 
 // Lent memory before a call, at the front of the answer: how many octets it has.
@@ -42,10 +31,7 @@ pub(crate) fn lend(out: &mut [u8], s: &[u8]) -> usize
     ensures { result ≤ length out.new }
 {
     octets_copies::put_octets(out, 0, s);
-    if out.len() < s.len() {
-        return out.len();
-    }
-    s.len()
+    s.len().min(out.len())
 }
 
 // The number i.
@@ -56,13 +42,6 @@ pub(crate) fn number(s: &[u8], i: u8) -> usize {
 
 // The octets from a place on, as many as there are of so many.
 pub(crate) fn part(s: &[u8], start: usize, length: usize) -> &[u8] {
-    let n = s.len();
-    if n < start {
-        return &s[n..];
-    }
-    if n - start < length {
-        return &s[start..];
-    }
-    let end = start + length;
-    &s[start..end]
+    let rest = &s[start.min(s.len())..];
+    &rest[..length.min(rest.len())]
 }

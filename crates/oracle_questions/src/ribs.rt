@@ -1,32 +1,30 @@
 // RIB bodies, read and written.
 use crate::headers::put_written;
 use crate::put::{lend, number, numbers, part, refused, sixteen};
-use answer::Outcome;
-use rib_entries::{Cursor, CursorAnswer, Entry, EntryAnswer, NextAnswer};
-use rib_write::{BuilderAnswer, NewEntry};
-
-pub(crate) fn outcome_number(o: Outcome) -> u8 {
-    match o {
-        Outcome::Accepted => 0,
-        Outcome::Refused(r) => answer::number(r),
-    }
-}
+use answer::Refusal;
+use rib_entries::{Cursor, Entry};
+use rib_write::{Builder, NewEntry};
 
 // x: the subtype.
 pub(crate) fn read(a: &[u8], x: &[u8], out: &mut [u8]) -> usize {
-    let r = rib_read::read_rib(a, octets::be16(x, 6));
-    let prefix = r.prefix;
-    let outcome = r.outcome;
-    let values = [
-        outcome_number(outcome) as usize,
-        r.sequence as usize,
-        r.bits as usize,
-        r.declared as usize,
-        r.count as usize,
-        r.entries,
-    ];
-    let p = numbers(out, 0, &values);
-    sixteen(out, p, &prefix)
+    match rib_read::read_rib(a, octets::be16(x, 6)) {
+        Err(r) => {
+            let p = refused(out, 0, r);
+            numbers(out, p, &[0; 7])
+        }
+        Ok(rib) => {
+            let values = [
+                0,
+                rib.sequence as usize,
+                rib.bits as usize,
+                rib.declared as usize,
+                rib.count as usize,
+                rib.entries,
+            ];
+            let p = numbers(out, 0, &values);
+            sixteen(out, p, &rib.prefix)
+        }
+    }
 }
 
 fn put_entry(out: &mut [u8], at: usize, e: Entry) -> usize {
@@ -44,8 +42,8 @@ fn put_entry(out: &mut [u8], at: usize, e: Entry) -> usize {
 // x: the subtype, and the entry's number.
 pub(crate) fn entry(a: &[u8], x: &[u8], out: &mut [u8]) -> usize {
     match rib_entries::entry_at(a, octets::be16(x, 6), number(x, 1)) {
-        EntryAnswer::Refused(r) => refused(out, 0, r),
-        EntryAnswer::Read(e) => put_entry(out, 0, e),
+        Ok(e) => put_entry(out, 0, e),
+        Err(r) => refused(out, 0, r),
     }
 }
 
@@ -53,46 +51,33 @@ pub(crate) fn entry(a: &[u8], x: &[u8], out: &mut [u8]) -> usize {
 pub(crate) fn entries(a: &[u8], x: &[u8], out: &mut [u8]) -> usize {
     let subtype = octets::be16(x, 6);
     match rib_entries::first_entry(a, subtype) {
-        CursorAnswer::Refused(r) => refused(out, 0, r),
-        CursorAnswer::At(c) => hand_out(a, subtype, c, out),
+        Ok(c) => hand_out(a, subtype, c, out),
+        Err(r) => refused(out, 0, r),
     }
 }
 
 // What a cursor hands out, and 255 at its end.
-fn hand_out(a: &[u8], subtype: u16, c: Cursor, out: &mut [u8]) -> usize {
+fn hand_out(a: &[u8], subtype: u16, first: Cursor, out: &mut [u8]) -> usize {
     let mut p = 0;
-    let mut cursor = c;
-    let mut turns = c.left as usize + 1;
-    while 0 < turns {
+    let mut cursor = first;
+    for _ in 0..first.left as usize + 1 {
         match rib_entries::next_entry(a, subtype, cursor) {
-            NextAnswer::Refused(r) => return refused(out, p, r),
-            NextAnswer::End => {
-                let end = [255];
-                return numbers(out, p, &end);
-            }
-            NextAnswer::Entry {
-                entry,
-                cursor: next,
-            } => {
-                p = put_entry(out, p, entry);
-                cursor = next;
+            Err(r) => return refused(out, p, r),
+            Ok(None) => return numbers(out, p, &[255]),
+            Ok(Some(next)) => {
+                p = put_entry(out, p, next.entry);
+                cursor = next.cursor;
             }
         }
-        turns -= 1;
     }
     p
 }
 
 // x: the record's timestamp, the originated time, and two numbers: 1 where the age is the first less the second.
 pub(crate) fn age(x: &[u8], out: &mut [u8]) -> usize {
-    let expected = difference(octets::be32(x, 20), octets::be32(x, 28));
+    let expected = i64::from(octets::be32(x, 20)) - i64::from(octets::be32(x, 28));
     let is_so = rib_head::age(octets::be32(x, 4), octets::be32(x, 12)) == expected;
-    let values = [is_so as usize];
-    numbers(out, 0, &values)
-}
-
-fn difference(more: u32, less: u32) -> i64 {
-    (more as i64) - (less as i64)
+    numbers(out, 0, &[usize::from(is_so)])
 }
 
 // a: the output before. b: the prefix. x: subtype, sequence, prefix bits.
@@ -131,30 +116,22 @@ pub(crate) fn add(a: &[u8], b: &[u8], x: &[u8], out: &mut [u8]) -> usize {
 
 // The body is opened once, and the entry pushed twice. a, b and x as for add; the length is within the output.
 pub(crate) fn push(a: &[u8], b: &[u8], x: &[u8], out: &mut [u8]) -> usize {
-    let subtype = octets::be16(x, 14);
-    let e = new_entry(x);
-    let first = rib_add::open_rib(part(a, 0, number(x, 0)), subtype);
     let n = lend(out, a);
-    let second = push_one(&mut out[..n], subtype, first, e, b);
-    let third = push_one(&mut out[..n], subtype, second, e, b);
-    match third {
-        BuilderAnswer::Refused(r) => refused(out, n, r),
-        BuilderAnswer::Open(c) => {
-            let values = [0, c.len, c.at, c.count as usize];
-            numbers(out, n, &values)
-        }
+    let body = part(a, 0, number(x, 0));
+    match push_twice(&mut out[..n], body, octets::be16(x, 14), new_entry(x), b) {
+        Ok(c) => numbers(out, n, &[0, c.len, c.at, c.count as usize]),
+        Err(r) => refused(out, n, r),
     }
 }
 
-fn push_one(
+fn push_twice(
     out: &mut [u8],
+    body: &[u8],
     subtype: u16,
-    before: BuilderAnswer,
     e: NewEntry,
     attributes: &[u8],
-) -> BuilderAnswer {
-    match before {
-        BuilderAnswer::Refused(r) => BuilderAnswer::Refused(r),
-        BuilderAnswer::Open(b) => rib_write::push_entry(out, subtype, b, e, attributes),
-    }
+) -> Result<Builder, Refusal> {
+    let first = rib_add::open_rib(body, subtype)?;
+    let second = rib_write::push_entry(out, subtype, first, e, attributes)?;
+    rib_write::push_entry(out, subtype, second, e, attributes)
 }

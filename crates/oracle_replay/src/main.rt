@@ -13,74 +13,64 @@ const STREAM: usize = 65537;
 // One octet more than any listing has, so that a longer file is seen.
 const TEXT: usize = 1649590;
 
+#[derive(Drop)]
+struct Rooms<'a> {
+    stream: &'a mut [u8; STREAM],
+    text: &'a mut [u8; TEXT],
+    expected: &'a mut [u8; TEXT],
+}
+
 fn main(rt: HostRuntime) {
     let mut stream = [0u8; STREAM];
     let mut text = [0u8; TEXT];
     let mut expected = [0u8; TEXT];
-    replay_named(&rt, &mut stream, &mut text, &mut expected);
+    let mut rooms = Rooms {
+        stream: &mut stream,
+        text: &mut text,
+        expected: &mut expected,
+    };
+    replay_named(&rt, &mut rooms);
 }
 
 // The first word of a command line is the program's own name. A write that fails shows nowhere.
-fn replay_named<R: Env + Files + Print>(
-    rt: &R,
-    stream: &mut [u8; STREAM],
-    text: &mut [u8; TEXT],
-    expected: &mut [u8; TEXT],
-) {
+fn replay_named<R: Env + Files + Print>(rt: &R, rooms: &mut Rooms) {
     let words = arg_count(rt);
     if words == 0 {
         return;
     }
-    let wrong = replay_all(rt, words, stream, text, expected);
+    let wrong = replay_all(rt, words, rooms);
     let streams = words - 1;
     let _ = println!(rt; "{streams} streams, {wrong} listed otherwise");
 }
 
 // How many of the named streams are listed otherwise.
-fn replay_all<R: Env + Files + Print>(
-    rt: &R,
-    words: usize,
-    stream: &mut [u8],
-    text: &mut [u8],
-    expected: &mut [u8],
-) -> u64 {
+fn replay_all<R: Env + Files + Print>(rt: &R, words: usize, rooms: &mut Rooms) -> u64 {
     let mut wrong = 0;
-    let mut i = 1;
-    while i < words {
-        wrong += replay(rt, i, stream, text, expected);
-        i += 1;
+    for i in 1..words {
+        if !replay(rt, i, rooms) {
+            wrong += 1;
+        }
     }
     wrong
 }
 
-// 0 where the stream of argument i is listed as it should be; otherwise 1, and its name is written.
-fn replay<R: Env + Files + Print>(
-    rt: &R,
-    i: usize,
-    stream: &mut [u8],
-    text: &mut [u8],
-    expected: &mut [u8],
-) -> u64
-    ensures { result ≤ 1 }
-{
+// Whether the stream of argument i is listed as it should be. The name of one that is not is written.
+fn replay<R: Env + Files + Print>(rt: &R, i: usize, rooms: &mut Rooms) -> bool {
     let mut path = [0u8; 4096];
     let length = arg(rt, i, &mut path);
     let name = &path[..length];
-    if agrees(rt, name, stream, text, expected) {
-        return 0;
+    if agrees(rt, name, rooms) {
+        return true;
     }
     let _ = rt.write_all(name);
     let _ = rt.write_all(b" is listed otherwise\n");
-    1
+    false
 }
 
-fn agrees<R: Files>(
-    rt: &R,
-    name: &[u8],
-    stream: &mut [u8],
-    text: &mut [u8],
-    expected: &mut [u8],
-) -> bool {
+fn agrees<R: Files>(rt: &R, name: &[u8], rooms: &mut Rooms) -> bool {
+    let stream = &mut *rooms.stream;
+    let text = &mut *rooms.text;
+    let expected = &mut *rooms.expected;
     let Some(mut dump) = open(rt, name, b".mrt") else {
         return false;
     };
@@ -90,27 +80,16 @@ fn agrees<R: Files>(
     };
     let k = read_full(&mut listing, expected);
     let m = listing_lines::list(&stream[..n], text);
-    if text.len() < m {
-        return false;
-    }
-    &text[..m] == &expected[..k]
+    m <= text.len() && &text[..m] == &expected[..k]
 }
 
 // The file whose name has this ending, where it can be opened.
 fn open<R: Files>(rt: &R, name: &[u8], ending: &[u8]) -> Option<R::File> {
     let mut path = [0u8; 4096];
-    let length = name.len();
-    let size = ending.len();
-    if 4096 < size {
-        return None;
-    }
-    if 4096 - size < length {
-        return None;
-    }
-    let end = length + size;
+    let end = name.len().checked_add(ending.len())?;
     octets_copies::put_octets(&mut path, 0, name);
-    octets_copies::put_octets(&mut path, length, ending);
-    let path = str::from_utf8(&path[..end]).ok()?;
+    octets_copies::put_octets(&mut path, name.len(), ending);
+    let path = str::from_utf8(path.get(..end)?).ok()?;
     fs::open(rt, path).ok()
 }
 
@@ -143,8 +122,5 @@ fn arg_count<R: Env>(rt: &R) -> usize {
 fn arg<R: Env>(rt: &R, i: usize, room: &mut [u8]) -> usize
     ensures { result ≤ length room.new }
 {
-    match rt.arg(i, room) {
-        Ok(n) => n,
-        Err(_) => 0,
-    }
+    rt.arg(i, room).unwrap_or(0)
 }

@@ -23,8 +23,9 @@ use Rattle.walk_step.proofs.Theorems.{calls_promise}
 use Rattle.mrt_lent.specs.Export.{mark}
 use Rattle.mrt_lent.specs.Rows.{Rows, rows_on, rows_from, rows_handed, none_handed}
 use Rattle.mrt_lent.specs.declared.Handed.{Handed}
-use Rattle.mrt_lent.proofs.Walks.{walk_full, walk_served}
-use Rattle.mrt_walk.specs.Next.{walk_in, walk_values, stepped_out, next_out}
+use Rattle.mrt_lent.proofs.Walks.{Held, walk_full, walk_served}
+use Rattle.mrt_lent.specs.Walks.{walk_in}
+use Rattle.mrt_walk.specs.Next.{walk_values, stepped_out, next_out}
 use Rattle.mrt_records.specs.Records.{record_turn, record_at, records_handed, records_out}
 use Rattle.whole.specs.Made.{Holds, Made, one, many, Calls, answers_of, values_of, Shows, none, next, records}
 use Rattle.whole.specs.Made.{full_next, full_records, answered, Nexts}
@@ -72,6 +73,9 @@ module _ (s : List ℕ) (window k : ℕ) where
     inside : get_or ws 0 0 ≤ length s
     inside = let e = h.position in let l = h.within in omega arith
 
+    held : (places : List ℕ) → 10 ≤ length places → Held (length s) ws places w
+    held places l = record { two = h.long; marked = small; within = inside; room = l; is = sym walk_in_lem }
+
     -- a walk that is stored is held
     stored : (v : Walk) → v.position ≤ length s → Holds (length s) v (patch ws 0 (walk_values v))
     unfolding patch
@@ -102,25 +106,25 @@ module _ (s : List ℕ) (window k : ℕ) where
 
     next_served : (places : List ℕ) → 10 ≤ length places → next_out s ws window k places ≡ stepped_out ws places (go w)
     next_served places l =
-        sym (walk_served (length s) ws places _ _ _ h.long small inside l)
+        sym (walk_served _ _ _ (held places l))
         ∙ ap (λ (v : Walk). stepped_out ws places (over s (step judge_at candidate_at v window k))) walk_in_lem
 
     next_full : (places : List ℕ) → length places < 10 → next_out s ws window k places ≡ (ws, (places, 9))
-    next_full places l = sym (walk_full (length s) ws places _ _ _ h.long small inside l)
+    next_full places l = sym (walk_full _ ws places _ _ _ h.long small inside l)
 
     records_full : (places : List ℕ) → length places < 10 → records_out s ws places ≡ (ws, (places, none_handed 9))
-    records_full places l = sym (walk_full (length s) ws places _ _ _ h.long small inside l)
+    records_full places l = sym (walk_full _ ws places _ _ _ h.long small inside l)
 
     records_finished : (places : List ℕ) → 10 ≤ length places → w.finished ≡ true → records_out s ws places ≡ (ws, (places, rows_handed 0))
     records_finished places l f =
         let e : eqb (get_or ws 1 0) 1 ≡ true = ap (λ (n : ℕ). eqb n 1) (h.marked ∙ ap mark f) in
-        sym (walk_served (length s) ws places _ _ _ h.long small inside l) ∙ simp e
+        sym (walk_served _ _ _ (held places l)) ∙ simp e
 
     records_served : (places : List ℕ) → 10 ≤ length places → w.finished ≡ false
         → records_out s ws places ≡ records_handed ws places (rows_from (record_at s) (length places / 10) w.position)
     records_served places l f =
         let e : eqb (get_or ws 1 0) 1 ≡ false = ap (λ (n : ℕ). eqb n 1) (h.marked ∙ ap mark f) in
-        sym (walk_served (length s) ws places _ _ _ h.long small inside l)
+        sym (walk_served _ _ _ (held places l))
         ∙ simp e (ap (λ (p : ℕ). records_handed ws places (rows_from (record_at s) (length places / 10) p)) h.position)
 
   -- rows of records from p on are steps of the walk

@@ -1,4 +1,4 @@
-use Rattle.listing_lines.proofs.digits.+put_decimal.Given as goal
+use Rattle.listing_lines.proofs.digits.Text.+put_decimal.Given as goal
 
 abbrev pub decreases-put_decimal : goal.decreases-put_decimal
 decreases-put_decimal l = l.v
