@@ -1,13 +1,12 @@
--- What the writer's definition is in each of its cases.
-use Prim.Native.Nat.{ℕ, ◌+◌, ◌<◌, ◌≤◌}
+-- What a header's octets are, what stores leave of them, and what an accepted call has shown.
+use Prim.Native.Nat.{ℕ, ◌+◌}
 use mathlib.Core.Path.{◌≡◌, refl, ◌∙◌, ap}
 use mathlib.Core.Bool.{Bool, true, false, cond}
 use mathlib.Core.List.{List, [], ◌++◌, append-nil}
 use lib.ListN.{length, drop, length-append}
 use lib.Dec.{leb}
 use native.Mathlib.Omega.{arith}
-use borrow.Author.Tests.{lt-ltb, le-ltb, eq-eqb, ne_eqb}
-use Rattle.answer.specs.Writing.{refuse, at_front}
+use Rattle.answer.specs.Writing.{at_front}
 use Rattle.answer.proofs.Writers.{front_full, front_stored}
 use Rattle.octets.specs.Octets.{bytes_of, patch}
 use Rattle.octets.proofs.Numbers.{length_bytes}
@@ -24,10 +23,10 @@ module _ (h : CommonHeader) (w : WireLength) where
   length-common = refl
 
   -- the four stores of the common fields
-  pub common-stored : (s : List ℕ) {a b c d : List ℕ} → a ≡ patch s 0 (bytes_of 4 h.timestamp) → b ≡ patch a 4 (bytes_of 2 h.kind)
+  pub common_stored : (s : List ℕ) {a b c d : List ℕ} → a ≡ patch s 0 (bytes_of 4 h.timestamp) → b ≡ patch a 4 (bytes_of 2 h.kind)
       → c ≡ patch b 6 (bytes_of 2 h.subtype) → d ≡ patch c 8 (bytes_of 4 w.0) → d ≡ patch s 0 (common_octets h w)
   unfolding common_octets
-  common-stored s p q r t =
+  common_stored s p q r t =
       let time = bytes_of 4 h.timestamp in
       let kind = bytes_of 2 h.kind in
       let sub = bytes_of 2 h.subtype in
@@ -55,6 +54,13 @@ module _ (h : CommonHeader) where
   unfolding header_octets wire_of
   plain_octets i = simp (i, append-nil)
 
+  -- t is the output after the common fields, and u after the microseconds
+  pub timed_stored : timed h.kind ≡ true → (s : List ℕ) {t u : List ℕ} → t ≡ patch s 0 (common_octets h (record { 0 = h.length.0 + 4 }))
+      → u ≡ patch t 12 (bytes_of 4 h.micros) → u ≡ patch s 0 (header_octets h)
+  timed_stored i s p q =
+      let w : WireLength = record { 0 = h.length.0 + 4 } in
+      stores s 0 12 (common_octets h w) (bytes_of 4 h.micros) (length-common h w) p q ∙ ap (patch s 0) (timed-octets i)
+
   -- what an accepted call has shown, and leaves
   pub record Accepted (s : List ℕ) : Type 0 where
     pub known_type : known h.kind ≡ true
@@ -73,49 +79,5 @@ module _ (h : CommonHeader) where
       by_tests true false false n f l z = absurd (let y : ◌≡◌ {A = ℕ} 9 0 = rw (n, f, l) at z in omega arith)
       by_tests true false true n f l z = record { known_type = n; fits = f; all = rw (n, f, l) }
 
-  module _ (s : List ℕ) where
-    pub write_unknown : known h.kind ≡ false → refuse 2 s ≡ write_header s h
-    unfolding write_header
-    write_unknown e = simp e
-
-    module _ (n : known h.kind ≡ true) where
-      module _ (i : timed h.kind ≡ true) where
-        pub timed-unfit : 4294967291 < h.length.0 → refuse 10 s ≡ write_header s h
-        unfolding write_header unfit
-        timed-unfit l = simp (n, i, lt-ltb _ _ l)
-
-        module _ (l : h.length.0 ≤ 4294967291) where
-          timed_front : at_front s (header_octets h) ≡ write_header s h
-          unfolding write_header unfit
-          timed_front = simp (n, i, le-ltb _ _ l)
-
-          pub timed_full : length s < 16 → refuse 9 s ≡ write_header s h
-          timed_full m = front_full s (header_octets h) 16 (length-header ∙ size-timed h.kind i) m ∙ timed_front
-
-          -- t is the output after the common fields, and u after the microseconds
-          pub timed-stored : 16 ≤ length s → {t u : List ℕ} → t ≡ patch s 0 (common_octets h (record { 0 = h.length.0 + 4 }))
-              → u ≡ patch t 12 (bytes_of 4 h.micros) → record { number = 0; octets = 16; output = u } ≡ write_header s h
-          timed-stored m {t} {u} p q =
-              let w : WireLength = record { 0 = h.length.0 + 4 } in
-              let r = stores s 0 12 (common_octets h w) (bytes_of 4 h.micros) (length-common h w) p q in
-              front_stored s (header_octets h) 16 (length-header ∙ size-timed h.kind i) m u (r ∙ ap (patch s 0) (timed-octets i))
-              ∙ timed_front
-
-      module _ (i : timed h.kind ≡ false) where
-        pub plain_unfit : (h.micros ≡ 0 → ⊥) → refuse 10 s ≡ write_header s h
-        unfolding write_header unfit
-        plain_unfit l = simp (n, i, ne_eqb _ _ l)
-
-        module _ (l : h.micros ≡ 0) where
-          plain_front : at_front s (header_octets h) ≡ write_header s h
-          unfolding write_header unfit
-          plain_front = simp (n, i, eq-eqb _ _ l)
-
-          pub plain_full : length s < 12 → refuse 9 s ≡ write_header s h
-          plain_full m = front_full s (header_octets h) 12 (length-header ∙ size_plain h.kind i) m ∙ plain_front
-
-          pub plain_stored : 12 ≤ length s → {t : List ℕ} → t ≡ patch s 0 (common_octets h (record { 0 = h.length.0 }))
-              → record { number = 0; octets = 12; output = t } ≡ write_header s h
-          plain_stored m {t} p =
-              front_stored s (header_octets h) 12 (length-header ∙ size_plain h.kind i) m t (p ∙ ap (patch s 0) (plain_octets i))
-              ∙ plain_front
+-- what the check asks of the writer, for both sizes
+pub ruleset front = (front_full, front_stored, length-header, timed_stored, plain_octets, size-timed, size_plain)

@@ -9,6 +9,7 @@ use crate::{CommonHeader, WireLength};
 use answer::Refusal;
 
 // The header at the front of the lent output.
+#[tactic(auto, using(crate::proofs::Writing::front), unfolding(crate::specs::Write::write_header, crate::specs::Write::unfit))]
 pub fn write_header(out: &mut [u8], header: CommonHeader) -> Result<usize, Refusal>
     ensures answer { wrote result out.new ≡ write_header out.old header }
 {
@@ -40,6 +41,7 @@ pub fn write_header(out: &mut [u8], header: CommonHeader) -> Result<usize, Refus
 }
 
 // The twelve octets that every header has.
+#[tactic(auto, using(crate::proofs::Writing::common_stored))]
 fn put_common(out: &mut [u8], header: CommonHeader, wire: WireLength)
     ensures { out.new ≡ patch out.old 0 (common_octets header wire) }
 {

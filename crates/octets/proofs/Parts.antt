@@ -2,11 +2,8 @@
 use Prim.Native.Nat.{ℕ, zero, suc, ◌+◌, ◌-◌, ◌<◌, ◌≤◌}
 use mathlib.Core.Path.{◌≡◌, refl, sym, ◌∙◌, ap}
 use mathlib.Core.List.{List, [], ◌∷◌, ◌++◌, append_assoc, append-nil}
-use mathlib.Core.Bool.{Bool, true, false}
 use native.Mathlib.Nat.{add-zero, le_of_eq}
 use native.Mathlib.Omega.{arith}
-use borrow.Author.Tests.{leb-true, leb-false, le-leb, lt-leb}
-use lib.Dec.{leb}
 use lib.ListN.{length, get_or, take, drop, length-take, length-drop, take-append-drop, drop_of_length-le, replicate}
 use lib.Seq.{drop-cons, get_or-take, get_or-drop, take_all, take-add, drop-append-le, drop-drop, length-take-le}
 use Rattle.octets.specs.Octets.{be_at, patch, part}
@@ -27,14 +24,6 @@ part-one s at h = rw (drop-cons s at 0 h)
 -- a part and the part straight after it
 pub part_join : (s : List ℕ) (at n m : ℕ) → part s at n ++ part s (at + n) m ≡ part s at (n + m)
 part_join s at n m = sym (take-add n m (drop at s) ∙ ap (λ (l : List ℕ). part s at n ++ take m l) (drop-drop n at s))
-
--- m octets from at on lie within n
-pub room-rest : (n at m : ℕ) → m ≤ n → leb at (n - m) ≡ leb (at + m) n
-room-rest n at m h = by_test (leb at (n - m)) refl
-  where
-    by_test : (t : Bool) → leb at (n - m) ≡ t → t ≡ leb (at + m) n
-    by_test true e = let l = leb-true at (n - m) e in sym (le-leb (at + m) n (omega arith))
-    by_test false e = let l = leb-false at (n - m) e in sym (lt-leb (at + m) n (omega arith))
 
 -- an octet of a part is that of the whole
 pub octet_part : (s : List ℕ) (at n i : ℕ) → i < n → get_or (part s at n) i 0 ≡ get_or s (at + i) 0

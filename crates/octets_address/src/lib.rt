@@ -18,15 +18,12 @@ pub fn size_of(long: bool) -> usize
 }
 
 // How many octets an address of a family takes; none for a family that is not known.
-#[tactic(auto, unfolding(crate::specs::Address::address_size, crate::specs::Address::nonzero))]
+#[tactic(auto, unfolding(crate::specs::Address::size_of, crate::specs::Address::address_size, crate::specs::Address::nonzero))]
 pub fn address_size(family: u16) -> Option<usize>
     ensures answer { result ≡ nonzero (address_size family) }
 {
-    match family {
-        1 => Some(4),
-        2 => Some(16),
-        _ => None,
-    }
+    let long = family == 2;
+    (long || family == 1).then_some(size_of(long))
 }
 
 // Copies four octets as one number.
@@ -38,7 +35,7 @@ fn put_four(out: &mut [u8], to: usize, s: &[u8], at: usize)
     octets_copies::store32(out, to, octets::be32(&s[at..stop], 0));
 }
 
-// Copies an address by fours.
+// Copies an address by fours: the library's copy of sixteen octets takes longer.
 fn put_fours(out: &mut [u8], to: usize, s: &[u8], at: usize, long: bool)
     requires { (to + size_of long ≤ length out.old) × (at + size_of long ≤ length s.now) }
     ensures { out.new ≡ patch out.old to (octets_at s.now at (size_of long)) }

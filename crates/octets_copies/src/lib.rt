@@ -40,7 +40,7 @@ pub fn store32(out: &mut [u8], at: usize, v: u32)
     store(out, at, u32::to_be_bytes(v));
 }
 
-// Copies octets.
+// Copies octets: 16 to 128 of them, as most attributes have, by blocks, which take less time than the library's copy.
 pub fn put_octets(out: &mut [u8], at: usize, src: &[u8])
     ensures { out.new ≡ patch out.old at src.now }
 {
