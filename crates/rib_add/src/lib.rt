@@ -8,7 +8,7 @@ ghost use Rattle.rib_add.specs.Add.{open_values, open_of, add_entry};
 use answer::Refusal;
 use rib_write::{Builder, NewEntry};
 
-// One more entry in a body that fills the first len octets of the lent output.
+// One more entry in a body that fills the first len octets of the lent output. The length stands beside it: one beyond it is refused.
 #[tactic(auto, unfolding(crate::specs::Add::add_entry))]
 pub fn add_entry(
     out: &mut [u8],

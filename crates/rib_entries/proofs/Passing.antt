@@ -10,8 +10,7 @@ use Rattle.std.proofs.Common.{Some, None}
 use Rattle.std.proofs.lemmas.Bool.Decides.{nat_tests}
 use Rattle.rib_entries.specs.declared.Cursor.{Cursor}
 use Rattle.rib_entries.specs.declared.Next.{Next}
-use Rattle.rib_entries.specs.Entry.{entry_end, fits, passed}
-use Rattle.rib_entries.specs.Steps.{step_at}
+use Rattle.rib_entries.specs.Entry.{entry_end, fits, passed, step_at}
 
 module _ (p : ℕ) (s : List ℕ) (at : ℕ) where
   -- one entry is passed, or none

@@ -15,18 +15,18 @@ use Rattle.answer.proofs.Refusals.{number-not-zero}
 use Rattle.rib_head.specs.Layout.{carried, path_size}
 use Rattle.rib_head.specs.Head.{declared, entries_at, check_rib}
 use Rattle.rib_entries.specs.declared.Cursor.{Cursor}
-use Rattle.rib_entries.specs.Entry.{no_step, fits, entry_here, passed, placed, first_of, next_of, cursor_values}
+use Rattle.rib_entries.specs.Entry.{no_step, fits, entry_here, passed, placed, first_of, step_at, next_of, cursor_values}
 use Rattle.rib_entries.specs.Entry.{no_entry, read_count, entry_of}
 use Rattle.rib_entries.proofs.Passing.{stops_at}
 
 -- no entry is left, or the next one does not fit
 module _ (s : List ℕ) (t : ℕ) (c : Cursor) (h : c.at ≤ length s) (f : carried t ≡ true) where
   pub next-none : c.left ≡ 0 → no_step 0 ≡ next_of s t c
-  unfolding next_of
+  unfolding next_of step_at
   next-none z = grind (arith, nat_tests)
 
   pub next_short : (c.left ≡ 0 → ⊥) → fits (path_size t) s c.at ≡ false → no_step 0 ≡ next_of s t c
-  unfolding next_of
+  unfolding next_of step_at
   next_short z g = grind (arith, nat_tests)
 
 -- what a head's check lets through

@@ -42,19 +42,20 @@ entry_end p s at = attributes_at p at + be_at s (at + (6 + p)) 2
 unfoldable pub fits : ℕ → List ℕ → ℕ → Bool
 fits p s at = leb (entry_end p s at) (length s)
 
--- the entry at an offset, or 8 where it does not fit
-unfoldable pub entry_here : ℕ → List ℕ → ℕ → Entered
-entry_here p s at =
-    cond (fits p s at)
-    (record {
-      number = 0;
+-- its fields
+abbrev pub fields_at : ℕ → List ℕ → ℕ → Entry
+fields_at p s at =
+    record {
       peer = be_at s at 2;
       originated = be_at s (at + 2) 4;
       path = be_at s (at + 6) p;
       start = attributes_at p at;
       end = entry_end p s at;
-    })
-    (no_entry 8)
+    }
+
+-- the entry at an offset, or 8 where it does not fit
+unfoldable pub entry_here : ℕ → List ℕ → ℕ → Entered
+entry_here p s at = cond (fits p s at) (entry_values (Ok (fields_at p s at))) (no_entry 8)
 
 -- of n entries from an offset on those are passed that fit, up to the first that does not: where that stops, and how many are left
 unfoldable pub passed : ℕ → List ℕ → ℕ → ℕ → Cursor
@@ -114,19 +115,15 @@ next_values (Ok (Some n)) = record { number = 0; handed = true; entry = entry_va
 next_values (Ok None) = no_step 0
 next_values (Err r) = no_step (number_of r)
 
--- the entry at the cursor c and the cursor after it, or the end: 8 for an offset beyond the body, then 6
+-- the entry at the cursor c and the cursor after it, where one is left and fits
+unfoldable pub step_at : ℕ → List ℕ → Cursor → Option Next
+step_at p s c =
+    cond (eqb c.left 0) None
+    (cond (fits p s c.at)
+    (Some (record { entry = fields_at p s c.at; cursor = record { at = entry_end p s c.at; left = c.left - 1 } }))
+    None)
+
+-- the same, or the end: 8 for an offset beyond the body, then 6
 unfoldable pub next_of : List ℕ → ℕ → Cursor → Stepped
 next_of s t c =
-    cond (ltb (length s) c.at) (no_step 8)
-    (cond (carried t)
-    (cond (eqb c.left 0) (no_step 0)
-    (cond (fits (path_size t) s c.at)
-    (record {
-      number = 0;
-      handed = true;
-      entry = entry_here (path_size t) s c.at;
-      at = entry_end (path_size t) s c.at;
-      left = c.left - 1;
-    })
-    (no_step 0)))
-    (no_step 6))
+    cond (ltb (length s) c.at) (no_step 8) (cond (carried t) (next_values (Ok (step_at (path_size t) s c))) (no_step 6))

@@ -1,10 +1,10 @@
 // The entries of a body, by number and by a cursor.
-ghost use Rattle.std.specs.Prelude.{◌≡◌, cond, eqb};
+ghost use Rattle.std.specs.Prelude.{◌≡◌};
 ghost use Rattle.octets.specs.Octets.{be_at};
 ghost use Rattle.rib_head.specs.Layout.{path_size};
-ghost use Rattle.rib_entries.specs.Entry.{passed, entry_values, entry_of};
+ghost use Rattle.rib_entries.specs.Entry.{passed, entry_values, entry_of, step_at};
 ghost use Rattle.rib_entries.specs.Entry.{cursor_values, first_of, after_of, next_values, next_of};
-ghost use Rattle.rib_entries.specs.Steps.{read_at, step_at};
+ghost use Rattle.rib_entries.specs.Steps.{read_at};
 
 use crate::{Cursor, Entry, Next};
 use answer::Refusal;
@@ -23,7 +23,7 @@ pub fn entry_at(body: &[u8], subtype: u16, i: usize) -> Result<Entry, Refusal>
         left: i as u16,
     };
     let c = pass_entries(body, subtype, before);
-    read_entry(body, rib_head::path_size(subtype), c.at).ok_or(Refusal::Beyond)
+    read_entry(body, subtype, c.at).ok_or(Refusal::Beyond)
 }
 
 // The cursor at the first entry.
@@ -50,36 +50,34 @@ pub fn after_entries(body: &[u8], subtype: u16) -> Result<Cursor, Refusal>
 
 // The entry at a cursor, with the cursor after it, or none at the end. Reading an entry asks for the place of the cursor too: one test
 // serves both.
-#[tactic(auto, unfolding(crate::specs::Entry::next_of, crate::specs::Entry::entry_here, crate::specs::Steps::step_at))]
+#[tactic(auto, unfolding(crate::specs::Entry::next_of))]
 pub fn next_entry(body: &[u8], subtype: u16, c: Cursor) -> Result<Option<Next>, Refusal>
     ensures answer { next_values result ≡ next_of body.now subtype c }
 {
     if body.len() < c.at {
         return Err(Refusal::Beyond);
     }
-    let l = rib_head::layout_of(subtype).ok_or(Refusal::OtherSubtype)?;
-    Ok(step(body, l.path, c))
+    rib_head::layout_of(subtype).ok_or(Refusal::OtherSubtype)?;
+    Ok(step(body, subtype, c))
 }
 
-// The cursor after the entries of a cursor, as far as they fit.
+// The cursor after the entries of a cursor, as far as they fit: step by step, with no index.
 pub fn pass_entries(body: &[u8], subtype: u16, mut c: Cursor) -> Cursor
     ensures answer { result ≡ passed (path_size subtype) body.now c.at c.left }
 {
-    let path = rib_head::path_size(subtype);
-    while let Some(next) = step(body, path, c) {
+    while let Some(next) = step(body, subtype, c) {
         c = next.cursor;
     }
     c
 }
 
 // The entry at a cursor, where one is left and fits, and the cursor after it.
-#[tactic(auto, unfolding(crate::specs::Steps::step_at, crate::specs::Steps::read_at))]
-fn step(body: &[u8], path: usize, c: Cursor) -> Option<Next>
-    requires { cond (eqb path 0) 0 4 ≡ path }
-    ensures { result ≡ step_at path body.now c }
+#[tactic(auto, unfolding(crate::specs::Entry::step_at, crate::specs::Steps::read_at))]
+fn step(body: &[u8], subtype: u16, c: Cursor) -> Option<Next>
+    ensures { result ≡ step_at (path_size subtype) body.now c }
 {
     let left = c.left.checked_sub(1)?;
-    let entry = read_entry(body, path, c.at)?;
+    let entry = read_entry(body, subtype, c.at)?;
     let cursor = Cursor {
         at: entry.end,
         left,
@@ -87,38 +85,38 @@ fn step(body: &[u8], path: usize, c: Cursor) -> Option<Next>
     Some(Next { entry, cursor })
 }
 
-// The entry that starts at an offset, where it fits. Path numbers take 0 octets or 4.
-fn read_entry(body: &[u8], path: usize, at: usize) -> Option<Entry>
-    requires { cond (eqb path 0) 0 4 ≡ path }
-    ensures { result ≡ read_at path body.now at }
+// The entry that starts at an offset, where it fits.
+fn read_entry(body: &[u8], subtype: u16, at: usize) -> Option<Entry>
+    ensures { result ≡ read_at (path_size subtype) body.now at }
 {
     let n = body.len();
-    let size = 8 + path;
+    let size = 8 + rib_head::path_size(subtype);
     if n < at || n - at < size {
         return None;
     }
     let start = at + size;
-    let length = usize::from(octets::be16(body, start - 2));
+    let head = &body[at..start];
+    let length = usize::from(octets::be16(head, size - 2));
     if n - start < length {
         return None;
     }
     Some(Entry {
-        peer: octets::be16(body, at),
-        originated: octets::be32(body, at + 2),
-        path: path_number(body, path, at + 6),
+        peer: octets::be16(head, 0),
+        originated: octets::be32(head, 2),
+        path: path_number(head, subtype),
         start,
         end: start + length,
     })
 }
 
-// The path number at an offset, 0 where it takes no octets.
-#[tactic(auto, unfolding(octets::specs::Octets::be_at))]
-fn path_number(body: &[u8], path: usize, at: usize) -> u32
-    requires { cond (eqb path 0) 0 4 ≡ path }
-    ensures { result ≡ be_at body.now at path }
+// The path number in an entry's head, 0 where it has none.
+#[tactic(auto, unfolding(rib_head::specs::Layout::path_size, octets::specs::Octets::be_at))]
+fn path_number(head: &[u8], subtype: u16) -> u32
+    ensures { result ≡ be_at head.now 6 (path_size subtype) }
 {
-    if path == 0 {
-        return 0;
+    if rib_head::has_path(subtype) {
+        octets::be32(head, 6)
+    } else {
+        0
     }
-    octets::be32(body, at)
 }

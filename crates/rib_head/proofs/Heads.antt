@@ -1,31 +1,20 @@
--- What a layout says of its subtype, and what the check of a head lets through.
+-- The most prefix bits of a layout, and what the check of a head lets through.
 use Prim.Native.Nat.{ℕ, ◌≤◌}
 use mathlib.Core.Path.{◌≡◌}
-use mathlib.Core.Bool.{true, false}
+use mathlib.Core.Bool.{true}
 use mathlib.Core.List.{List}
 use native.Mathlib.Omega.{arith}
 use lib.ListN.{length}
-use Rattle.std.proofs.Common.{Some, None}
+use Rattle.std.proofs.Common.{Some}
 use Rattle.std.proofs.lemmas.Bool.Decides.{nat_tests}
-use Rattle.rib_head.specs.Layout.{carried, most_bits, path_size, layout_of}
+use Rattle.rib_head.specs.Layout.{carried, most_bits, layout_of}
 use Rattle.rib_head.specs.declared.Layout.{Layout}
 use Rattle.rib_head.specs.Head.{bits_of, entries_at, readable, check_rib}
 use Rattle.rib_head.proofs.Layouts.{most_bits-le}
 
--- no layout
-pub carried-not : (t : ℕ) → None ≡ layout_of t → carried t ≡ false
-carried-not t e = grind (arith, nat_tests)
-
--- a layout
-module _ (t : ℕ) {l : Layout} (e : Some l ≡ layout_of t) where
-  pub carried_so : carried t ≡ true
-  carried_so = grind (arith, nat_tests)
-
-  pub path_of : l.path ≡ path_size t
-  path_of = grind (arith, nat_tests)
-
-  pub most_of : l.most ≡ most_bits t
-  most_of = grind (arith, nat_tests)
+-- the most prefix bits of a layout
+pub most_of : (t : ℕ) {l : Layout} → Some l ≡ layout_of t → l.most ≡ most_bits t
+most_of t e = grind (arith, nat_tests)
 
 -- a check that is met
 module _ (s : List ℕ) (t : ℕ) where

@@ -1,7 +1,7 @@
 // What a subtype decides, and whether the head of a body can be read.
-ghost use Rattle.std.specs.Prelude.{◌≡◌, ◌≤◌, cond, eqb};
+ghost use Rattle.std.specs.Prelude.{◌≡◌, ◌≤◌};
 ghost use Rattle.answer.specs.Refusal.{outcome_number};
-ghost use Rattle.rib_head.specs.Layout.{layout_of, path_size, prefix_size};
+ghost use Rattle.rib_head.specs.Layout.{layout_of, pathed, path_size, prefix_size};
 ghost use Rattle.rib_head.specs.Head.{readable, check_rib};
 
 use crate::Layout;
@@ -11,22 +11,32 @@ use answer::Refusal;
 pub fn layout_of(subtype: u16) -> Option<Layout>
     ensures answer { result ≡ layout_of subtype }
 {
-    match subtype {
-        2 | 3 => Some(Layout { most: 32, path: 0 }),
-        4 | 5 => Some(Layout { most: 128, path: 0 }),
-        8 | 9 => Some(Layout { most: 32, path: 4 }),
-        10 | 11 => Some(Layout { most: 128, path: 4 }),
-        _ => None,
-    }
+    let most = match subtype {
+        2 | 3 | 8 | 9 => 32,
+        4 | 5 | 10 | 11 => 128,
+        _ => return None,
+    };
+    Some(Layout {
+        most,
+        path: path_size(subtype),
+    })
 }
 
-// How many octets the path number of an entry takes: those of subtypes 8 to 11 have one (RFC 8050, 4).
-#[tactic(auto, unfolding(crate::specs::Layout::path_size, crate::specs::Layout::pathed))]
+// How many octets the path number of an entry takes.
+#[tactic(auto, unfolding(crate::specs::Layout::path_size))]
 pub fn path_size(subtype: u16) -> usize
     ensures answer { result ≡ path_size subtype }
-    ensures sized { cond (eqb result 0) 0 4 ≡ result }
+    ensures few { result ≤ 4 }
 {
-    if matches!(subtype, 8..=11) { 4 } else { 0 }
+    if has_path(subtype) { 4 } else { 0 }
+}
+
+// Whether an entry has a path number: those of subtypes 8 to 11 do (RFC 8050, 4).
+#[tactic(auto, unfolding(crate::specs::Layout::pathed))]
+pub fn has_path(subtype: u16) -> bool
+    ensures answer { result ≡ pathed subtype }
+{
+    matches!(subtype, 8..=11)
 }
 
 // Whether a body is a RIB body with a readable head.

@@ -5,6 +5,8 @@ use mathlib.Core.Bool.{Bool, true, false, not, ◌&&◌, ◌||◌, cond, true≢
 use mathlib.Core.List.{List, ◌++◌}
 use native.Mathlib.Nat.{add-zero, zero-add, sub-zero}
 use native.Mathlib.Omega.{arith}
+use Rattle.std.proofs.Common.{get_or-take}
+use Rattle.std.proofs.lemmas.List.{get_or-drop}
 use lib.ListN.{length, take, drop, get_or, take-append-drop}
 use lib.Dec.{ltb, eqb}
 use borrow.Author.Tests.{le-leb, leb-true, le-ltb, ltb-true, ltb-false, eq-eqb, ne_eqb, eqb-true, eqb-false}
@@ -16,7 +18,7 @@ use Rattle.rib_write.specs.Layout.{entry_octets}
 use Rattle.rib_write.specs.Rows.{entry_in, attributes_in, askable, Rowing, no_row, one_more, builder_after, push_row, push_rows}
 use Rattle.rib_write.specs.Rows.{rowed, rows_values}
 use Rattle.rib_write.specs.Steps.{size_in, taken, put_row, closed}
-use Rattle.rib_head.specs.Layout.{path_size}
+use Rattle.rib_head.specs.Layout.{pathed, path_size}
 use Rattle.rib_write.specs.Push.{Pushing, unpushed, unfit, added, push_after, push_entry}
 use Rattle.rib_write.specs.declared.NewEntry.{NewEntry}
 use Rattle.rib_write.specs.declared.Builder.{Builder}
@@ -102,25 +104,15 @@ module _ (p : ℕ) (rs : List ℕ) (at n k : ℕ) where
       by_test true e = absurd (z (taken_holds e))
       by_test false e = e
 
--- the path number v, by the greatest one of p octets, m
-module _ (p m v : ℕ) (q : m ≡ cond (eqb p 0) 0 4294967295) where
-  pub path-over : m < v → v ≤ 4294967295 → (p ≡ 0 → v ≡ 0) → ⊥
-  path-over h l z = by_test (eqb p 0) refl q
-    where
-      by_test : (b : Bool) → eqb p 0 ≡ b → m ≡ cond b 0 4294967295 → ⊥
-      by_test true e f = let o = z (eqb-true p 0 e) in omega arith
-      by_test false e f = omega arith
+-- the path number v, by the greatest one, m
+module _ (t m v : ℕ) (q : m ≡ cond (pathed t) 4294967295 0) where
+  pub path-over : m < v → v ≤ 4294967295 → (path_size t ≡ 0 → v ≡ 0) → ⊥
+  unfolding path_size
+  path-over h l z = grind arith
 
-  module _ (h : v ≤ m) where
-    pub path-within : v ≤ 4294967295
-    path-within = by_test (eqb p 0) q
-      where
-        by_test : (b : Bool) → m ≡ cond b 0 4294967295 → v ≤ 4294967295
-        by_test true f = omega arith
-        by_test false f = omega arith
-
-    pub path-none : p ≡ 0 → v ≡ 0
-    path-none z = let f = rw (eq-eqb p 0 z) at q in omega arith
+  pub path-within : v ≤ m → (v ≤ 4294967295) × (path_size t ≡ 0 → v ≡ 0)
+  unfolding path_size
+  path-within h = grind arith
 
 -- its attributes, and its octets
 module _ {rs : List ℕ} {at : ℕ} (buffer : List ℕ) (t : Asked rs at (length buffer)) where
@@ -163,6 +155,16 @@ module _ (s : List ℕ) (p : ℕ) (rs : List ℕ) (at : ℕ) (buffer : List ℕ)
 
     pub put_size : n ≡ 8 + p + size_in rs at
     put_size = let f = ap (λ (x : List ℕ × Option ℕ). x.1) (e ∙ sym (put_taken put_holds refl)) in cc
+
+-- a row of its own is the row at a place
+pub row_alone : (s : List ℕ) (p : ℕ) (rs : List ℕ) (at : ℕ) (buffer : List ℕ)
+    → put_row s p (part rs at (at + 5 - at)) 0 buffer ≡ put_row s p rs at buffer
+unfolding put_row taken askable
+row_alone s p rs at buffer =
+    let five : at + 5 - at ≡ 5 = omega arith in
+    let v : (j : ℕ) → j < 5 → get_or (part rs at 5) j 0 ≡ get_or rs (at + j) 0 =
+    λ j h. get_or-take 5 (drop at rs) j 0 h ∙ get_or-drop at rs j 0 in
+    rw five (simp (v 0 (omega arith), add-zero, v 1 (omega arith), v 2 (omega arith), v 3 (omega arith), v 4 (omega arith)) refl)
 
 -- one row where a builder stands
 module _ {s : List ℕ} {t : ℕ} {b : Builder} (w : Stands s t b) (rs : List ℕ) (at : ℕ) (buffer : List ℕ) where
@@ -276,11 +278,6 @@ rows_stop (suc k) s t b rs at buffer h z =
         more (omega arith) (rw m at z)
     by_test false e more h z = eqb-false p.number 0 e (rw (add-zero at) at z)
 
--- the count is stored after the last one
-pub rows-closed : (s : List ℕ) (b : Builder) (len n : ℕ) {v : List ℕ} → v ≡ patch s b.at (bytes_of 2 (b.count + n))
-    → (v, record { builder = record { len = len; at = b.at; count = b.count + n }; rows = n }) ≡ closed s b len n
-rows-closed s b len n e = rw e
-
 -- so many rows before others
 abbrev more_rows : ℕ → Rowing → Rowing
 more_rows n r = record { rows = n + r.rows; builder = r.builder; output = r.output }
@@ -390,34 +387,33 @@ module _ (t : ℕ) (b : Builder) (rs buffer before : List ℕ) where
         by_test false e = let k = g.placed in let l = ltb-false place (length rs) e in rows-over _ _ _ _ _ _ (omega arith)
 
     -- the part from the builder's end on, and what the row at the place has made of it
-    module _ {p : ℕ} (q : p ≡ path_size t) where
-      length_rest : length (part out len (length out - len)) ≡ length (output_of out g.rows) - len
-      length_rest = length_part out len (length out - len) (omega (arith, len-within)) ∙ rw length-output
+    length_rest : length (part out len (length out - len)) ≡ length (output_of out g.rows) - len
+    length_rest = length_part out len (length out - len) (omega (arith, len-within)) ∙ rw length-output
 
-      -- it is refused, and the output stays
-      module _ {u : List ℕ} (e : (u, None) ≡ put_row (part out len (length out - len)) p rs place buffer) where
-        pub row-refused : Ended
-        row-refused = rows_none _ _ _ _ _ _
-            (λ y. put_none _ _ _ _ _ e (rw (q, length_rest) (row_fits g.stands rs place buffer y).1)) _
+    -- it is refused, and the output stays
+    module _ {u : List ℕ} (e : (u, None) ≡ put_row (part out len (length out - len)) (path_size t) rs place buffer) where
+      pub row-refused : Ended
+      row-refused = rows_none _ _ _ _ _ _
+          (λ y. put_none _ _ _ _ _ e (rw length_rest (row_fits g.stands rs place buffer y).1)) _
 
-        pub row_stays : take len out ++ (u ++ drop (length out - len) (drop len out)) ≡ out
-        row_stays =
-            let f = put_refused _ _ _ _ _ (put_none _ _ _ _ _ e) in
-            let v : u ≡ part out len (length out - len) = ap (λ (x : List ℕ × Option ℕ). x.0) (e ∙ sym f) in
-            rw (v, take-append-drop (length out - len) (drop len out)) (take-append-drop len out)
+      pub row_stays : take len out ++ (u ++ drop (length out - len) (drop len out)) ≡ out
+      row_stays =
+          let f = put_refused _ _ _ _ _ (put_none _ _ _ _ _ e) in
+          let v : u ≡ part out len (length out - len) = ap (λ (x : List ℕ × Option ℕ). x.0) (e ∙ sym f) in
+          rw (v, take-append-drop (length out - len) (drop len out)) (take-append-drop len out)
 
-      -- it goes in
-      module _ {u : List ℕ} {n : ℕ} (e : (u, Some n) ≡ put_row (part out len (length out - len)) p rs place buffer) where
-        pub row-taken : Fits
-        row-taken = rw (q, length_rest) at (put_holds _ _ _ _ _ e)
+    -- it goes in
+    module _ {u : List ℕ} {n : ℕ} (e : (u, Some n) ≡ put_row (part out len (length out - len)) (path_size t) rs place buffer) where
+      pub row-taken : Fits
+      row-taken = rw length_rest at (put_holds _ _ _ _ _ e)
 
-        pub row-size : n ≡ 8 + path_size t + size_in rs place
-        row-size = put_size _ _ _ _ _ e ∙ rw q
+      pub row-size : n ≡ 8 + path_size t + size_in rs place
+      row-size = put_size _ _ _ _ _ e
 
-        pub row-fits_in : len + n ≤ length out
-        row-fits_in = let r = row-taken.room in omega (arith, row-size, len-within, length-output)
+      pub row-fits_in : len + n ≤ length out
+      row-fits_in = let r = row-taken.room in omega (arith, row-size, len-within, length-output)
 
-        pub row-stored : take len out ++ (u ++ drop (length out - len) (drop len out)) ≡ patch out len new
-        row-stored =
-            let v = rw q at (put_octets _ _ _ _ _ e) in
-            patch-rest out len 0 new len-within v ∙ ap (λ (k : ℕ). patch out k new) (add-zero len)
+      pub row-stored : take len out ++ (u ++ drop (length out - len) (drop len out)) ≡ patch out len new
+      row-stored =
+          let v = put_octets _ _ _ _ _ e in
+          patch-rest out len 0 new len-within v ∙ ap (λ (k : ℕ). patch out k new) (add-zero len)

@@ -7,11 +7,11 @@ use native.Mathlib.Nat.{zero-add}
 use native.Mathlib.Omega.{arith}
 use lib.ListN.{length, take, drop, length-append, drop_of_length-le}
 use lib.Seq.{length-take-le}
-use lib.Dec.{eqb}
 use Rattle.octets.specs.Octets.{bytes_of, patch, part}
 use Rattle.octets.proofs.Numbers.{length_bytes, bytes_halves}
 use Rattle.octets.proofs.Stores.{stores, patch_front}
 use Rattle.octets.proofs.Parts.{patch_lent}
+use Rattle.rib_head.specs.Layout.{pathed, path_size}
 use Rattle.rib_write.specs.Layout.{entry_octets}
 use Rattle.rib_write.specs.declared.NewEntry.{NewEntry}
 use Rattle.rib_write.proofs.Sizes.{length-entry}
@@ -21,21 +21,13 @@ pub bytes_cut : (n v : ℕ) → bytes_of n (v % 256 ^ n) ≡ bytes_of n v
 unfolding bytes_of
 bytes_cut n v = bytes_halves 0 n v ∙ ap (λ (k : ℕ). bytes_of k v) (zero-add n)
 
-pub path-cut : (p v : ℕ) → cond (eqb p 0) 0 4 ≡ p → bytes_of p (v % 4294967296) ≡ bytes_of p v
-unfolding bytes_of
-path-cut p v e = by_test (eqb p 0) e
+pub path-cut : (t v : ℕ) → bytes_of (path_size t) (v % 4294967296) ≡ bytes_of (path_size t) v
+unfolding path_size bytes_of
+path-cut t v = by_test (pathed t)
   where
-    by_test : (b : Bool) → cond b 0 4 ≡ p → bytes_of p (v % 4294967296) ≡ bytes_of p v
-    by_test true h = rw (← h) refl
-    by_test false h = rw (← h) (bytes_cut 4 v)
-
--- a path number that takes no octets, and one that takes four
-pub path_unwritten : (s : List ℕ) (at v n : ℕ) → n ≡ 0 → s ≡ patch s at (bytes_of n v)
-unfolding patch bytes_of
-path_unwritten s at v n z = rw z
-
-pub path_written : (s : List ℕ) (at v n : ℕ) {u : List ℕ} → u ≡ patch s at (bytes_of 4 v) → 4 ≡ n → u ≡ patch s at (bytes_of n v)
-path_written s at v n q e = rw (← e) q
+    by_test : (b : Bool) → bytes_of (cond b 4 0) (v % 4294967296) ≡ bytes_of (cond b 4 0) v
+    by_test true = bytes_cut 4 v
+    by_test false = refl
 
 -- an entry whose path number takes p octets, field by field
 pub entry-stored : (s : List ℕ) (p : ℕ) (e : NewEntry) (l : List ℕ) {u v w x y : List ℕ}

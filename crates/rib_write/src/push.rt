@@ -1,5 +1,6 @@
 // One more entry where a builder stands.
-ghost use Rattle.std.specs.Prelude.{◌≡◌, ◌+◌, ◌≤◌, cond, length, eqb};
+ghost use Rattle.std.specs.Prelude.{◌≡◌, ◌+◌, ◌≤◌, length};
+ghost use Rattle.rib_head.specs.Layout.{path_size};
 ghost use Rattle.answer.specs.Refusal.{outcome_number};
 ghost use Rattle.octets.specs.Octets.{bytes_of, patch};
 ghost use Rattle.rib_write.specs.Layout.{entry_octets};
@@ -41,6 +42,7 @@ pub(crate) fn check_builder(body: &[u8], subtype: u16, b: Builder) -> Result<(),
 }
 
 // One more entry after the octets of a builder's body.
+#[tactic(auto, unfolding(crate::specs::Push::push_after, crate::specs::Push::unfit))]
 fn push_after(
     out: &mut [u8],
     subtype: u16,
@@ -57,15 +59,14 @@ fn push_after(
     if is_unfit(b.count, subtype, e.path, m) {
         return Err(Refusal::TooLarge);
     }
-    let path = rib_head::path_size(subtype);
-    let size = 8 + path + m;
+    let size = 8 + rib_head::path_size(subtype) + m;
     if n - len < size {
         return Err(Refusal::NoRoom);
     }
     let end = len + size;
     let count = b.count + 1;
     let row = [e.peer as u64, e.originated as u64, e.path as u64];
-    put_entry(&mut out[len..end], path, &row, 0, attributes);
+    put_entry(&mut out[len..end], subtype, &row, attributes);
     octets::put_be16(out, b.at, count);
     Ok(Builder {
         len: end,
@@ -75,34 +76,33 @@ fn push_after(
 }
 
 // Whether a value does not fit its field: one entry more, the path number, the attributes' length.
-#[tactic(auto, unfolding(crate::specs::Push::unfit))]
+#[tactic(auto, unfolding(crate::specs::Push::unfit, rib_head::specs::Layout::path_size))]
 fn is_unfit(count: u16, subtype: u16, path: u32, m: usize) -> bool
     ensures { result ≡ unfit count subtype path m }
 {
-    count == 65535 || 65535 < m || (rib_head::path_size(subtype) == 0 && path != 0)
+    count == 65535 || 65535 < m || (!rib_head::has_path(subtype) && path != 0)
 }
 
-// The entry of the row at a place in the part that it fills, its path number in so many octets. The values are read between the stores,
-// which lets the compiler make one store of each number.
-pub(crate) fn put_entry(part: &mut [u8], path: usize, rows: &[u64], at: usize, attributes: &[u8])
-    requires { (at + 3 ≤ length rows.now) × (cond (eqb path 0) 0 4 ≡ path) }
-    ensures { part.new
-        ≡ patch part.old 0 (entry_octets path (entry_in rows.now at) attributes.now) }
+// The entry of a row in the part that it fills. The values are read between the stores, which lets the compiler make one store of each
+// number.
+pub(crate) fn put_entry(part: &mut [u8], subtype: u16, row: &[u64], attributes: &[u8])
+    requires { 3 ≤ length row.now }
+    ensures { part.new ≡ patch part.old 0 (entry_octets (path_size subtype) (entry_in row.now 0) attributes.now) }
 {
-    octets_copies::store16(part, 0, (rows[at] % 65536) as u16);
-    octets_copies::store32(part, 2, (rows[at + 1] % 4294967296) as u32);
-    put_path(part, path, (rows[at + 2] % 4294967296) as u32);
+    let path = rib_head::path_size(subtype);
+    octets_copies::store16(part, 0, (row[0] % 65536) as u16);
+    octets_copies::store32(part, 2, (row[1] % 4294967296) as u32);
+    put_path(part, subtype, (row[2] % 4294967296) as u32);
     octets_copies::store16(part, 6 + path, (attributes.len() % 65536) as u16);
     octets_copies::put_octets(part, 8 + path, attributes);
 }
 
-// The path number, where it has octets.
-fn put_path(part: &mut [u8], path: usize, v: u32)
-    requires { cond (eqb path 0) 0 4 ≡ path }
-    ensures { part.new ≡ patch part.old 6 (bytes_of path v) }
+// The path number, if there is one.
+#[tactic(auto, unfolding(rib_head::specs::Layout::path_size, octets::specs::Octets::patch, octets::specs::Octets::bytes_of))]
+fn put_path(part: &mut [u8], subtype: u16, v: u32)
+    ensures { part.new ≡ patch part.old 6 (bytes_of (path_size subtype) v) }
 {
-    if path == 0 {
-        return;
+    if rib_head::has_path(subtype) {
+        octets_copies::store32(part, 6, v);
     }
-    octets_copies::store32(part, 6, v);
 }

@@ -10,7 +10,5 @@ loop-next-preserved c = c.loop-next.invariant ∙ passed_step _ _ _ c.in-Some.en
 
 pub returns : goal.returns
 returns c = record {
-  answer =
-      rw (← c.path_size-path.ensures.answer)
-      (passed_still _ _ _ (sym c.in_default.is ∙ c.step.ensures) ∙ sym c.loop-next.invariant);
+  answer = passed_still _ _ _ (sym c.in_default.is ∙ c.step.ensures) ∙ sym c.loop-next.invariant;
 }

@@ -1,24 +1,16 @@
 use native.Mathlib.Omega.{arith}
 use Rattle.std.proofs.lemmas.Bool.Decides.{nat_tests}
-use Rattle.rib_write.specs.Push.{unfit, added, push_after}
+use Rattle.rib_write.specs.Push.{added, push_after}
 use Rattle.rib_write.proofs.Sizes.{length-entry}
 use Rattle.rib_write.proofs.Written.{part-stored}
 use Rattle.rib_write.proofs.push.push_after.Goals as goal
-
-pub returns-then-is_unfit : goal.returns-then-is_unfit
-unfolding push_after
-returns-then-is_unfit c = grind (arith, nat_tests)
 
 pub returns-then-n-len : goal.returns-then-n-len
 unfolding push_after
 returns-then-n-len c = grind (arith, nat_tests, length-entry)
 
-pub overflow_add-count : goal.overflow_add-count
-unfolding unfit
-overflow_add-count c = grind (arith, nat_tests)
-
 pub returns : goal.returns
 unfolding push_after added
 returns c =
-    let e = part-stored _ _ _ _ _ c.requires c.if-n-len.false c.put_entry.ensures in
+    let e = part-stored _ _ _ _ _ c.requires c.if-n-len.false (rw (← c.path_size.ensures.answer) at c.put_entry.ensures) in
     grind (arith, nat_tests, length-entry)

@@ -2,14 +2,14 @@ use Prim.Native.Nat.{◌<◌}
 use mathlib.Core.Path.{◌∙◌}
 use native.Mathlib.Omega.{arith}
 use Rattle.rib_write.proofs.ByRows.{len-within, going_start, going_on, going_ends, going_full}
-use Rattle.rib_write.proofs.ByRows.{row-refused, row_stays, row-taken, row-size, row-fits_in, row-stored}
+use Rattle.rib_write.proofs.ByRows.{row_alone, row-refused, row_stays, row-taken, row-size, row-fits_in, row-stored}
 use Rattle.rib_write.proofs.rows.push_rows.Goals as goal
 use Rattle.rib_write.proofs.rows.push_rows.Goals.{else-loop-place-test, then-loop-place-test+in_default}
 
 pub loop-place-init : goal.loop-place-init
 loop-place-init c =
-    let few : c.args.b.count < 65536 = omega (arith, c.struct_known-1) in
-    going_start _ _ _ _ _ few (λ i. (c.slice_known-1.given i).fits) (record { within = c.requires.0; stands = c.requires.1 })
+    let few : c.args.b.count < 65536 = omega arith in
+    going_start _ _ _ _ _ few (λ i. (c.type_inv.out i).fits) (record { within = c.requires.0; stands = c.requires.1 })
 
 pub slice_bounds-put_row-count : goal.slice_bounds-put_row-count
 slice_bounds-put_row-count c = len-within _ _ _ _ _ c.loop-place.invariant
@@ -19,17 +19,16 @@ slice_bounds-put_row-start c = let h = len-within _ _ _ _ _ c.loop-place.invaria
 
 pub overflow_add-len : goal.overflow_add-len
 overflow_add-len c =
-    let room = row-fits_in _ _ _ _ _ c.loop-place.invariant c.path_size-path.ensures.answer c.in-Some.ensures in
+    let room = row-fits_in _ _ _ _ _ c.loop-place.invariant (c.in-Some.ensures ∙ row_alone _ _ _ _ _) in
     omega (arith, room, c.loop-place.invariant.same)
 
 pub loop-place-preserved : goal.loop-place-preserved
 loop-place-preserved c =
     let g = c.loop-place.invariant in
     let k = g.placed in
-    let path = c.path_size-path.ensures.answer in
-    let put = c.in-Some.ensures in
+    let put = c.in-Some.ensures ∙ row_alone _ _ _ _ _ in
     going_on _ _ _ _ _ g c.requires.2 (omega (arith, c.loop-place-test.true)) (omega (arith, c.loop-place-test.true))
-    (row-taken _ _ _ _ _ g path put) (row-stored _ _ _ _ _ g path put) (row-size _ _ _ _ _ g path put)
+    (row-taken _ _ _ _ _ g put) (row-stored _ _ _ _ _ g put) (row-size _ _ _ _ _ g put)
 
 pub returns : goal.returns
 returns c =
@@ -39,7 +38,6 @@ returns c =
           going_ends _ _ _ _ _ g c.close_rows.ensures w.out-is
           (going_full _ _ _ _ _ g c.requires.2 (omega (arith, w.loop-place-test.false)))
       | then-loop-place-test+in_default w ↦
-          let path = c.path_size-path.ensures.answer in
-          let put = w.in_default.ensures in
-          going_ends _ _ _ _ _ g c.close_rows.ensures (w.out-is ∙ row_stays _ _ _ _ _ g path put) (row-refused _ _ _ _ _ g path put)
+          let put = w.in_default.ensures ∙ row_alone _ _ _ _ _ in
+          going_ends _ _ _ _ _ g c.close_rows.ensures (w.out-is ∙ row_stays _ _ _ _ _ g put) (row-refused _ _ _ _ _ g put)
     ]
