@@ -6,7 +6,7 @@ ghost use Rattle.std.specs.Prelude.{◌≡◌};
 ghost use Rattle.walk.specs.Evidence.{evidence_number};
 ghost use Rattle.walk.specs.Step.{fresh_walk};
 
-// Where a walk stands in its stream, and whether it has given its last answer.
+// Where a walk stands in its stream, and whether it has given its last answer: a mark beside the position, since a finished walk has one.
 #[derive(Clone, Copy)]
 pub struct Walk {
     pub position: usize,
@@ -24,7 +24,7 @@ pub fn fresh() -> Walk
 }
 
 // What a walk goes on at after a gap, with the number by which it is known outside; 1 is reserved.
-#[derive(Clone, Copy, PartialEq, Eq)]
+#[derive(Clone, Copy)]
 pub enum Evidence {
     // A record with a BGP message, which a scan has found.
     Message = 2,

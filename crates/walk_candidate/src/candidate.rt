@@ -10,6 +10,7 @@ use crate::Standing;
 use header::{CommonHeader, Headed};
 use walk::Evidence;
 
+#[tactic(auto, using(crate::proofs::Kept::head_kept))]
 pub fn candidate_at(s: &[u8], at: usize) -> Option<Standing>
     ensures answer { candidacy result ≡ over s.now (candidate_at at) }
 {
@@ -21,6 +22,7 @@ pub fn candidate_at(s: &[u8], at: usize) -> Option<Standing>
 }
 
 // The record of a header that has been read there, where it is framed and its body passes.
+#[tactic(auto, using(crate::proofs::Kept::frame_starts, crate::proofs::Kept::frame_ends))]
 fn take_up(s: &[u8], at: usize, head: Headed) -> Option<Standing>
     requires { heading_of head ≡ header_at s.now at }
     ensures { candidacy result ≡ standing (over s.now (judge_at at)) }

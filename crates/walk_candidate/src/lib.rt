@@ -7,7 +7,7 @@ pub use candidate::candidate_at;
 use walk::Evidence;
 
 // A record that a scan may take up: by what evidence, and where it ends.
-#[derive(Clone, Copy, PartialEq, Eq)]
+#[derive(Clone, Copy)]
 pub struct Standing {
     pub evidence: Evidence,
     pub end: usize,

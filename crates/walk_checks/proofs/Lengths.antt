@@ -9,6 +9,7 @@ use Rattle.std.specs.Prelude.{Option, Some, None, unwrap_or}
 use Rattle.std.specs.Option.{option_map, option_copied, option_flatten}
 use Rattle.std.specs.Slice.{IsItemAt}
 use Rattle.walk_checks.specs.Within.{from_to, none}
+use Rattle.walk_checks.specs.Bgp4mp.{as_sizes, as_size}
 use Rattle.walk_checks.specs.declared.Bounds.{Bounds}
 
 now_or : {X : Type 0} (r : Option (Bor X)) (d : X) → unwrap_or (option_copied r) d
@@ -42,3 +43,8 @@ row_at (b ∷ bs) (suc u) h = row_at bs u (omega arith)
 
 pub row_beyond : (bs : List Bounds) (u : ℕ) → length bs ≤ u → pair none ≡ pair (get_or bs u none)
 row_beyond bs u h = ap pair (sym (get_or-eq_default bs none h))
+
+-- beyond the table there is no size of an AS
+pub as_size-rest : (u : ℕ) → 12 ≤ u → 0 ≡ as_size u
+unfolding as_size as_sizes
+as_size-rest u h = sym (get_or-eq_default as_sizes 0 h)

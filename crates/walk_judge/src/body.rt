@@ -7,7 +7,7 @@ ghost use Rattle.walk_judge.specs.Body.{check, table_dump_v2};
 use answer::Refusal;
 use header::StoredLength;
 
-// The body of a record, by the record's type, subtype and stored length.
+// The body of a record, by the record's type, which is a number of the stream, its subtype and its stored length.
 #[tactic(auto, unfolding(crate::specs::Body::check, crate::specs::Body::check_of, crate::specs::Body::carried, header::specs::Kind::known))]
 pub fn check_body(body: &[u8], kind: u16, subtype: u16, stored: StoredLength) -> Result<(), Refusal>
     ensures answer { outcome_number result ≡ check kind subtype stored.0 body.now }

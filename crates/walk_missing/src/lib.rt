@@ -6,7 +6,8 @@ mod turned;
 
 pub use row::{count, fresh};
 
-// The last sequence number of type 13 and that of type 12, where a record of it was counted after the last peer table.
+// The last sequence number of type 13 and that of type 12, where a record of it was counted after the last peer table. Marks beside the
+// numbers, and no Options: a lent number keeps its value beside a mark of 0.
 #[derive(Clone, Copy)]
 pub struct Counters {
     pub tabled: bool,

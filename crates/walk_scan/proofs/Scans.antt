@@ -11,6 +11,7 @@ use Rattle.rules.specs.Ask.{over}
 use Rattle.walk.specs.Step.{nowhere, scan}
 use Rattle.walk.specs.Judged.{fails}
 use Rattle.walk.proofs.Turns.{Left, Looks, scan-over, scan-past, scan_turned, scan_looks, row-fails}
+use Rattle.walk.proofs.Turns.{scan_starts, row_starts, row_ends}
 use Rattle.walk_candidate.specs.Candidate.{candidate_at}
 use Rattle.walk_scan.specs.Sight.{Passed, Clear}
 use Rattle.walk_candidate.proofs.Candidates.{candidate_near}
@@ -69,3 +70,6 @@ looks_next s more p window d next l u h q =
     let e : next - 1 + 1 ≡ next = omega arith in
     rw e at (scan_looks candidate_at s more p window (next - 1) (omega arith)
     (left_over s more p window d (next - 1) (omega arith) (omega arith) h q))
+
+-- what the check asks of a turn of the scan
+pub ruleset turns = (scan_starts, scan_turned, row_starts, row_ends, looks_next)

@@ -1,5 +1,5 @@
 -- What an answer of the scan says (01, Walk, confirmation, scan), and what its helpers rule out.
-use Rattle.std.specs.Prelude.{ℕ, ◌+◌, ◌<◌, ◌≤◌, ◌≡◌, List, Option, Some, None}
+use Rattle.std.specs.Prelude.{ℕ, ◌+◌, ◌-◌, ◌<◌, ◌≤◌, ◌≡◌, List, Option, Some, None, MatchOption}
 use Rattle.rules.specs.Ask.{over}
 use Rattle.walk.specs.Judged.{fails}
 use Rattle.walk.specs.Evidence.{evidence_number}
@@ -15,6 +15,10 @@ sighted None = nowhere
 -- no candidate stands at a distance from p after `from`, up to d
 abbrev pub Passed : List ℕ → ℕ → ℕ → ℕ → Type 0
 Passed s p from d = (e : ℕ) → from < e → e ≤ d → fails ≡ over s (candidate_at (p + e))
+
+-- the next distance after `from` and up to `last` that may begin a candidate
+abbrev pub Next : List ℕ → ℕ → ℕ → ℕ → Option ℕ → Type 0
+Next s p from last r = MatchOption r (Passed s p from last) (λ d. (from < d) × (d ≤ last) × Passed s p from (d - 1))
 
 -- no candidate stands at the n offsets from `at` on
 abbrev pub Clear : List ℕ → ℕ → ℕ → Type 0

@@ -10,7 +10,8 @@ use Rattle.header.specs.declared.Framed.{Framed}
 use Rattle.walk.specs.Judged.{fit}
 use Rattle.walk.specs.Step.{moved, gap, asked, Tried, passed, failed, Found, found, aligned, scan, scanned}
 use Rattle.walk.proofs.Turns.{aligned_enough, aligned-end, aligned-fit, aligned-off, aligned-cut}
-use Rattle.walk.proofs.Calls.{scanned-found}
+use Rattle.walk.proofs.Calls.{call_beyond, call_finished, call-end, call-fit, call-off, call-cut}
+use Rattle.walk.proofs.Calls.{unfound-left, unfound_shut, scanned-found, scanned-nowhere, own-passed, own-failed}
 use Rattle.walk_judge.specs.Record.{judge_at, judged}
 use Rattle.walk_judge.specs.declared.Verdict.{Verdict}
 use Rattle.walk_judge.specs.declared.Verdict.TheVariants.{Fit, Off, Cut}
@@ -63,3 +64,9 @@ module _ {a : ℕ} (k : ℕ) (e : a ≡ asked k) where
 
   pub asked-own : (s : List ℕ) (at : ℕ) {t : Tried} → t ≡ over s (aligned judge_at a 0 at) → t ≡ over s (aligned judge_at (asked k) 0 at)
   asked-own s at q = q ∙ ap (λ (n : ℕ). over s (aligned judge_at n 0 at)) e
+
+-- what the check asks of the gap that a call leaves, and of a whole call
+pub ruleset gaps =
+    (unfound-left, unfound_shut, scanned-nowhere, asked_more, asked-found, asked-own, own-passed, own-failed)
+
+pub ruleset calls = (call_beyond, call_finished, call-end, call-fit, call-off, call-cut)

@@ -8,6 +8,7 @@ ghost use Rattle.walk_step.specs.Answers.{tried};
 use walk_judge::Verdict;
 
 // How many records pass from an offset on: as many as are asked for, or fewer where the stream ends exactly after them.
+#[tactic(auto, using(crate::proofs::Reading::goes_first, crate::proofs::Reading::goes_end, crate::proofs::Reading::goes_enough))]
 pub(crate) fn try_own_end(s: &[u8], at: usize, asked: u8) -> Option<u8>
     ensures { tried result ≡ over s.now (aligned judge_at asked 0 at) }
 {

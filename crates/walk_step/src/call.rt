@@ -13,7 +13,8 @@ use header::Located;
 use walk::Walk;
 use walk_judge::Verdict;
 
-// The next answer of a walk over a whole stream, and the walk after it.
+// The next answer of a walk over a whole stream, and the walk after it. The window and the asked number are the call's, by those names.
+#[tactic(auto, using(crate::proofs::Reading::calls))]
 pub fn step(s: &[u8], w: Walk, window: usize, asked: u8) -> Stepped
     ensures answer { stepped result ≡ over s.now (step_rule judge_at candidate_at w window asked) }
 {
@@ -52,7 +53,7 @@ pub fn next(s: &[u8], w: &mut Walk, window: usize, asked: u8) -> WalkAnswer
     after.answer
 }
 
-// The walk goes on at p.
+// The walk goes on at p. This and the next one are two names for a mark, which is read at five places.
 pub(crate) fn go_on(p: usize, answer: WalkAnswer) -> Stepped
     ensures { stepped result ≡ moved p (said answer) }
 {

@@ -25,6 +25,7 @@ pub(crate) struct Lost<'a> {
 
 impl Lost<'_> {
     // A record that is framed and refused: its own end is tried, and then the scan.
+    #[tactic(auto, using(crate::proofs::Reading::gaps))]
     pub(crate) fn resume(self, refusal: Refusal, end: usize) -> Stepped
         ensures { stepped result ≡ over self.entry.s.now
             (own_end judge_at candidate_at self.entry.start self.entry.window self.entry.asked (number_of refusal) end) }
@@ -45,6 +46,7 @@ impl Lost<'_> {
     }
 
     // The scan.
+    #[tactic(auto, using(crate::proofs::Reading::gaps))]
     pub(crate) fn search(self, refusal: Refusal) -> Stepped
         ensures { stepped result ≡ over self.entry.s.now
             (scanned judge_at candidate_at self.entry.start self.entry.window self.entry.asked (number_of refusal)) }
@@ -66,6 +68,7 @@ impl Lost<'_> {
     }
 
     // No offset in the window: the gap to the end where less than window + 6 octets are left, or else the refusal.
+    #[tactic(auto, using(crate::proofs::Reading::gaps))]
     fn unfound(self, refusal: Refusal) -> Stepped
         ensures { stepped result ≡ over self.entry.s.now (unfound self.entry.start self.entry.window (number_of refusal)) }
     {

@@ -19,9 +19,6 @@ returns-then-not-is_plausible c = record {
       (sym c.is_plausible.ensures ∙ c.if-not-is_plausible.true);
 }
 
-pub take_up-requires : goal.take_up-requires
-take_up-requires c = head_kept _ _ _ c.read_header.ensures.answer c.in_ok-head.ensures.value
-
 pub returns : goal.returns
 returns c = record {
   answer =

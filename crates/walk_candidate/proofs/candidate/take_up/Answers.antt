@@ -2,7 +2,7 @@ use mathlib.Core.Path.{refl, sym, ◌∙◌, ap}
 use Rattle.answer.proofs.Refusals.{number-not-zero}
 use Rattle.answer.specs.Refusal.{outcome_number}
 use Rattle.header.proofs.Framing.{read_within}
-use Rattle.walk_judge.proofs.Judging.{frame_inside, judged-cut, judged-off, judged-fit}
+use Rattle.walk_judge.proofs.Judging.{judged-cut, judged-off, judged-fit}
 use Rattle.walk_candidate.specs.Candidate.{candidacy}
 use Rattle.walk_candidate.proofs.Kept.{kept, lost, frame_kept, frame_lost}
 use Rattle.walk_candidate.proofs.Candidates.{standing-cut, standing-off, standing-fit}
@@ -12,15 +12,6 @@ pub returns-in_err-frame : goal.returns-in_err-frame
 returns-in_err-frame c =
     let l = frame_lost _ _ _ c.requires _ c.frame_of.ensures.answer c.in_err-frame.ensures.value in
     ap candidacy c.from_residual.ensures ∙ standing-cut (judged-cut _ _ _ (number-not-zero l.0) (read_within _ _ c.requires) l.1)
-
-pub slice_bounds-body-count : goal.slice_bounds-body-count
-slice_bounds-body-count c = (frame_inside _ _ _ (frame_kept _ _ _ c.requires _ c.frame_of.ensures.answer c.in_ok-frame.ensures.value)).0
-
-pub slice_bounds-body-start : goal.slice_bounds-body-start
-slice_bounds-body-start c = (frame_inside _ _ _ (frame_kept _ _ _ c.requires _ c.frame_of.ensures.answer c.in_ok-frame.ensures.value)).0
-
-pub slice_bounds-body-end : goal.slice_bounds-body-end
-slice_bounds-body-end c = (frame_inside _ _ _ (frame_kept _ _ _ c.requires _ c.frame_of.ensures.answer c.in_ok-frame.ensures.value)).1
 
 pub returns-in_err-ok : goal.returns-in_err-ok
 returns-in_err-ok c =

@@ -1,30 +1,15 @@
 use Prim.Native.Nat.{◌+◌}
 use mathlib.Core.Bool.{cond}
-use mathlib.Core.Path.{◌≡◌, refl, sym, ap}
+use mathlib.Core.Path.{◌≡◌, sym, ap}
 use native.Mathlib.Omega.{arith}
 use lib.Dec.{eqb}
 use borrow.Author.Tests.{eq-eqb, ne_eqb}
 use Rattle.walk.specs.Evidence.{evidence_number}
-use Rattle.walk.proofs.Turns.{scan_starts, scan_turned, scan-left, row_starts, row_ends, row_turned, row-whole}
+use Rattle.walk.proofs.Turns.{scan-left, row_turned, row-whole}
 use Rattle.walk_candidate.specs.Candidate.{candidate_at}
 use Rattle.walk_scan.proofs.Scans.{scan_reached, left_over, looks_next}
 use Rattle.walk_scan.proofs.sight.scan.Goals as goal
 use Rattle.walk_scan.proofs.sight.scan.Goals.{then-i-eq0, else-i-eq0}
-
-pub distance-init : goal.distance-init
-distance-init c = (omega arith, c.reach-last.ensures, scan_starts candidate_at _ _ _ _)
-
-pub loop-i-init : goal.loop-i-init
-loop-i-init c = row_starts candidate_at _ _ _ _
-
-pub distance-preserved : goal.distance-preserved
-distance-preserved c =
-    let n = c.in-Some.ensures in (
-      n.1,
-      c.distance.invariant.1,
-      scan_turned candidate_at _ _ _ _ _ _ refl (looks_next _ _ _ _ _ _ n.0 (omega (arith, n.1)) c.distance.invariant.2 n.2)
-          (sym (row_ends candidate_at _ _ _ _ _ _ (omega arith) c.loop-i.invariant (sym c.in_default-candidate_at.ensures.answer))),
-    )
 
 pub loop-i-preserved : goal.loop-i-preserved
 loop-i-preserved c =
@@ -36,8 +21,8 @@ loop-i-preserved c =
     ] in
     row_turned candidate_at _ _ _ _ _ _ (omega arith) c.loop-i.invariant (sym c.in-Some-candidate_at.ensures.answer) set
 
-pub returns-in-Some : goal.returns-in-Some
-returns-in-Some c = record {
+pub returns-in-distance : goal.returns-in-distance
+returns-in-distance c = record {
   answer =
       let n = c.in-Some.ensures in
       let e : c.loop-i.i ≡ c.args.more + 1 = omega arith in
@@ -45,8 +30,8 @@ returns-in-Some c = record {
       (sym (row-whole candidate_at _ _ _ _ _ _ (omega arith) (rw e at c.loop-i.invariant)));
 }
 
-pub returns : goal.returns
-returns c = record {
+pub returns-in_default : goal.returns-in_default
+returns-in_default c = record {
   answer =
       scan_reached _ _ _ _ _ (omega arith) (omega arith)
       (left_over _ _ _ _ _ _ c.distance.invariant.0 (omega arith) c.distance.invariant.2 c.in_default.ensures);

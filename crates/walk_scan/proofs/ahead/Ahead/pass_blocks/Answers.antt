@@ -1,6 +1,6 @@
 use native.Mathlib.Omega.{arith}
 use Rattle.walk_scan.proofs.Scans.{passed_block}
-use Rattle.walk_scan.proofs.sight.pass_blocks.Goals as goal
+use Rattle.walk_scan.proofs.ahead.Ahead.pass_blocks.Goals as goal
 
 pub loop-d-preserved : goal.loop-d-preserved
 loop-d-preserved c =
