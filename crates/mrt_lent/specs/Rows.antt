@@ -1,13 +1,11 @@
 -- Rows of values that a call hands out one after another in lent places, as long as there are rows and places for them.
-use Rattle.std.specs.Prelude.{ℕ, zero, suc, List, [], ◌++◌}
+use Rattle.std.specs.Prelude.{ℕ, zero, suc, List, [], ◌++◌, Option, Some, None}
 use Rattle.octets.specs.Octets.{patch}
 use Rattle.mrt_lent.specs.declared.Handed.{Handed}
 
--- row: the values of a row, and where to go on after it
--- none: there is no row
-pub data Turn (S : Type 0) : Type 0 where
-  row : List ℕ → S → Turn S
-  none : Turn S
+-- the values of a row, and where to go on after it, if there is one
+abbrev pub Turn : Type 0 → Type 0
+Turn S = Option (List ℕ × S)
 
 -- the values of rows, how many rows they are, and where to go on after them
 pub record Rows (S : Type 0) : Type 0 where
@@ -22,8 +20,8 @@ module _ {S : Type 0} where
 
   -- what a turn at a has found, and the rest
   unfoldable pub rows_on : (S → Rows S) → S → Turn S → Rows S
-  rows_on rest a (row vs b) = record { values = vs ++ (rest b).values; count = suc (rest b).count; after = (rest b).after }
-  rows_on rest a none = no_rows a
+  rows_on rest a (Some x) = record { values = x.0 ++ (rest x.1).values; count = suc (rest x.1).count; after = (rest x.1).after }
+  rows_on rest a None = no_rows a
 
   -- the rows from a on, at most k of them
   unfoldable pub rows_from : (S → Turn S) → ℕ → S → Rows S

@@ -1,7 +1,5 @@
 -- A walk that is lent as two places (01, Walk, confirmation, scan): its position, and 1 where it is finished or 0 where it is not.
-use Rattle.std.specs.Prelude.{ℕ, List, Bool, ◌&&◌, cond, length, get_or, leb, eqb, Result, Ok, Err}
-use Rattle.answer.specs.declared.Refusal.{Refusal}
-use Rattle.answer.specs.declared.Refusal.TheVariants.{Beyond, NoRoom}
+use Rattle.std.specs.Prelude.{ℕ, List, Bool, ◌&&◌, cond, length, get_or, leb, eqb}
 use Rattle.walk.specs.declared.Walk.{Walk}
 
 -- the places ws hold a walk, at a position within n octets
@@ -16,7 +14,3 @@ on_walk n ws out served full lost = cond (holds_walk n ws) (cond (leb 10 (length
 -- the walk that they hold
 abbrev pub walk_in : List ℕ → Walk
 walk_in ws = record { position = get_or ws 0 0; finished = eqb (get_or ws 1 0) 1 }
-
--- what a call over n octets, with so many places for its answer, learns of the walk in ws
-unfoldable pub lent_walk : ℕ → List ℕ → ℕ → Result Walk Refusal
-lent_walk n ws places = cond (holds_walk n ws) (cond (leb 10 places) (Ok (walk_in ws)) (Err NoRoom)) (Err Beyond)

@@ -30,7 +30,7 @@ pub fn hand_out(out: &mut [u64], values: &[u64]) -> u32
     0
 }
 
-// The number that a refusal is returned as.
+// The number that a refusal is returned as, under the name that the boundary has for it.
 pub fn refusal(r: Refusal) -> u32
     ensures { result ≡ number_of r }
 {

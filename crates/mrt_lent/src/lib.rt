@@ -6,11 +6,13 @@
 mod hand;
 mod lent;
 mod record;
+mod turns;
 mod writer;
 
 pub use hand::{hand_out, mark_of, none_handed, put_values, refusal, sixteen};
 pub use lent::lent_walk;
 pub use record::record_values;
+pub use turns::{Source, Taken, hand_rows};
 pub use writer::wrote_of;
 
 // What a writer returns: no octets where it has refused.

@@ -6,7 +6,7 @@ use crate::Wrote;
 use crate::hand::refusal;
 use answer::Refusal;
 
-// A writer's answer, as it is returned.
+// A writer's answer, as it is returned: the definition of this name.
 pub fn wrote_of(w: Result<usize, Refusal>) -> Wrote
     ensures { result ≡ wrote_of w }
 {

@@ -1,18 +1,18 @@
 -- Entries of a RIB body, many by one call, exported (RFC 6396, 4.3.4; RFC 8050, 4.1; 01, RIB bodies). The cursor is lent as two
 -- places: where the next entry starts, and how many are left. Each entry has five places. 8 for no such cursor, 6 for another
 -- subtype, then 9 for fewer than 5 places; all leave the cursor and the places. No entry is left where reading stops.
-use Rattle.std.specs.Prelude.{ℕ, ◌/◌, List, [], ◌∷◌, Bool, ◌&&◌, cond, length, get_or, leb}
+use Rattle.std.specs.Prelude.{ℕ, ◌/◌, List, [], ◌∷◌, Bool, ◌&&◌, cond, length, get_or, leb, Some, None}
 use Rattle.octets.specs.Octets.{patch}
 use Rattle.rib_head.specs.Layout.{carried}
 use Rattle.rib_entries.specs.Entry.{Stepped, next_of}
 use Rattle.rib_entries.specs.declared.Cursor.{Cursor}
-use Rattle.mrt_lent.specs.Rows.{Turn, row, none, Rows, rows_from, rows_handed, none_handed}
+use Rattle.mrt_lent.specs.Rows.{Turn, Rows, rows_from, rows_handed, none_handed}
 use Rattle.mrt_lent.specs.declared.Handed.{Handed}
 use Rattle.mrt_rib_cursor.specs.Entries.{entry_values}
 
 -- an entry that is handed out is a row, and the next one is looked for at the cursor after it
 abbrev pub entry_turn : Stepped → Turn Cursor
-entry_turn x = cond x.handed (row (entry_values x.entry) (record { at = x.at; left = x.left })) none
+entry_turn x = cond x.handed (Some (entry_values x.entry, record { at = x.at; left = x.left })) None
 
 -- what stands at a cursor of the body s with the subtype t
 unfoldable pub entry_at : List ℕ → ℕ → Cursor → Turn Cursor

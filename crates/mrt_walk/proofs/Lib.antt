@@ -1,3 +1,2 @@
--- Answered: an answer of the walk. Walks: the cases of the call.
-pub mod Answered
+-- Walks: a record that the call hands out.
 pub mod Walks

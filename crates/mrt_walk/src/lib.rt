@@ -18,11 +18,12 @@ use walk_step::WalkAnswer;
 // The next answer of a walk that is lent as its position and its finished mark. Room for every answer is asked for before the
 // walk moves, so that no answer is lost.
 // A record that passes is the usual answer: it is handed out first, and needs nothing of the search.
+#[tactic(auto, using(crate::proofs::Walks::next_handed), unfolding(mrt_lent::specs::Walks::on_walk, mrt_lent::specs::Walks::holds_walk))]
 pub fn mrt_next(s: &[u8], walk: &mut [u64], window: usize, asked: u8, out: &mut [u64]) -> u32
     ensures answer { (walk.new, (out.new, result))
         ≡ next_out s.now walk.old window asked out.old }
 {
-    let w = match mrt_lent::lent_walk(s.len(), walk, out.len()) {
+    let w = match mrt_lent::lent_walk(s.len(), walk, out) {
         Ok(w) => w,
         Err(r) => return refusal(r),
     };
@@ -41,6 +42,7 @@ pub fn mrt_next(s: &[u8], walk: &mut [u64], window: usize, asked: u8, out: &mut 
 }
 
 // A step of the walk that is held in two places, whatever its answer, and the walk moved.
+#[tactic(auto, unfolding(octets::specs::Octets::patch))]
 fn take_step(s: &[u8], w: Walk, walk: &mut [u64], window: usize, asked: u8, out: &mut [u64]) -> u32
     requires { 2 ≤ length walk.old }
     ensures { (walk.new, (out.new, result))

@@ -10,6 +10,7 @@ use lib.ListN.{length, get_or, take, drop, length-append}
 use lib.Seq.{get_or-append-add, take-suc, take-add, take_at, take-append_seam}
 use lib.Dec.{ltb, eqb, eqb-suc-zero}
 use borrow.Author.Tests.{le-leb, le-ltb, eq-eqb, eqb-true, leb-true}
+use Rattle.std.specs.Prelude.{Some, None}
 use Rattle.octets.specs.Octets.{be_at, patch, part, Octets}
 use Rattle.octets.proofs.Numbers.{bytes_of_be}
 use Rattle.octets.proofs.Stores.{patch_front, patch-over}
@@ -17,7 +18,7 @@ use Rattle.octets.proofs.Parts.{length_part}
 use Rattle.rib_head.specs.Layout.{carried, path_size, prefix_size}
 use Rattle.rib_head.specs.Head.{bits_of, count_at, declared, entries_at, check_rib}
 use Rattle.rib_head.proofs.Heads.{met-within, met-carried, met_most}
-use Rattle.rib_entries.specs.Entry.{attributes_at, entry_end, fits, entry_here, passed, placed, first_of, no_step, next_of}
+use Rattle.rib_entries.specs.Entry.{attributes_at, entry_end, fits, passed, placed, first_of, no_step, step_at, next_of}
 use Rattle.rib_entries.specs.declared.Cursor.{Cursor}
 use Rattle.rib_entries.proofs.Passing.{by_fit}
 use Rattle.rib_write.specs.Push.{Pushing, push_entry}
@@ -27,7 +28,7 @@ use Rattle.rib_write.specs.Rows.{push_entries}
 use Rattle.rib_write.specs.declared.Builder.{Builder}
 use Rattle.rib_write.proofs.ByRows.{Asked, askable_so, rows-one}
 use Rattle.rib_add.proofs.Opened.{Whole, whole-opened, open_whole}
-use Rattle.mrt_lent.specs.Rows.{row, none, rows_from, rows_on, rows_handed}
+use Rattle.mrt_lent.specs.Rows.{rows_from, rows_on, rows_handed}
 use Rattle.mrt_lent.specs.Export.{exported}
 use Rattle.mrt_lent.specs.declared.Handed.{Handed}
 use Rattle.mrt_rib_cursor.specs.Entries.{placed_out}
@@ -67,17 +68,17 @@ module _ (s : List ℕ) (t : ℕ) (c : carried t ≡ true) where
 
   -- an entry that fits, and none
   entry_turn_lem : (n at : ℕ) → fits (path_size t) s at ≡ true
-      → entry_at s t (cursor_at at (suc n)) ≡ row (values_at (path_size t) s at) (cursor_at (entry_end (path_size t) s at) n)
-  unfolding entry_at next_of entry_here
+      → entry_at s t (cursor_at at (suc n)) ≡ Some (values_at (path_size t) s at, cursor_at (entry_end (path_size t) s at) n)
+  unfolding entry_at next_of step_at
   entry_turn_lem n at f =
       let m : suc n - 1 ≡ n = omega arith in
       rw (le-ltb (length s) at (starts_within (path_size t) s at f), c, eqb-suc-zero n, f, m)
 
-  no_turn : (at : ℕ) → entry_at s t (cursor_at at 0) ≡ none
-  unfolding entry_at next_of
+  no_turn : (at : ℕ) → entry_at s t (cursor_at at 0) ≡ None
+  unfolding entry_at next_of step_at
   no_turn at = by_test (ltb (length s) at)
     where
-      by_test : (b : Bool) → entry_turn (cond b (no_step 8) (cond (carried t) (no_step 0) (no_step 6))) ≡ none
+      by_test : (b : Bool) → entry_turn (cond b (no_step 8) (cond (carried t) (no_step 0) (no_step 6))) ≡ None
       by_test true = refl
       by_test false = rw c
 

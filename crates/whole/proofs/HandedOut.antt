@@ -11,7 +11,8 @@ use lib.Dec.{ltb}
 use borrow.Author.Tests.{ne_eqb, le-ltb, ltb-true, ltb-false}
 use Rattle.rib_head.specs.Layout.{path_size}
 use Rattle.rib_head.specs.Head.{declared, entries_at, check_rib}
-use Rattle.rib_entries.specs.Entry.{Placed, Stepped, no_step, fits, entry_end, passed, read_count, entry_of, first_of, next_of}
+use Rattle.rib_entries.specs.Entry.{Placed, Stepped, no_step, fits, entry_end, passed, read_count, entry_here, entry_of, first_of, step_at}
+use Rattle.rib_entries.specs.Entry.{next_of}
 use Rattle.rib_entries.specs.declared.Cursor.{Cursor}
 use Rattle.rib_head.proofs.Heads.{met-carried, met-within}
 use Rattle.rib_entries.proofs.Passing.{by_fit, left_le, passed-within, stops_at}
@@ -63,7 +64,7 @@ module _ (s : List ℕ) (t : ℕ) (met : check_rib s t ≡ 0) where
   -- what a step answers below the read count
   step_below : (i : ℕ) → i < read_count s t → (c : Cursor) → c ≡ record { at = place i; left = declared s - i }
       → next_of s t c ≡ record { number = 0; handed = true; entry = entry_of s t i; at = place (suc i); left = declared s - suc i }
-  unfolding next_of place read_count
+  unfolding next_of step_at entry_here place read_count
   step_below i h c e =
       let p : ℕ = path_size t in
       let l : i < declared s = omega (arith, count-le s t) in
@@ -74,8 +75,8 @@ module _ (s : List ℕ) (t : ℕ) (met : check_rib s t ≡ 0) where
         le-ltb (length s) (place i) (place_within i),
         met-carried s t met,
         ne_eqb (declared s - i) 0 z,
+        ← entry-met s t met i l,
         (fits_below p s (entries_at s) (declared s) i h).0,
-        entry-met s t met i l,
         m,
         (fits_below p s (entries_at s) (declared s) i h).1,
       )

@@ -73,8 +73,8 @@ module _ (s : List ℕ) (window k : ℕ) where
     inside : get_or ws 0 0 ≤ length s
     inside = let e = h.position in let l = h.within in omega arith
 
-    held : (places : List ℕ) → 10 ≤ length places → Held (length s) ws places w
-    held places l = record { two = h.long; marked = small; within = inside; room = l; is = sym walk_in_lem }
+    held : Held (length s) ws
+    held = record { two = h.long; marked = small; within = inside }
 
     -- a walk that is stored is held
     stored : (v : Walk) → v.position ≤ length s → Holds (length s) v (patch ws 0 (walk_values v))
@@ -106,25 +106,25 @@ module _ (s : List ℕ) (window k : ℕ) where
 
     next_served : (places : List ℕ) → 10 ≤ length places → next_out s ws window k places ≡ stepped_out ws places (go w)
     next_served places l =
-        sym (walk_served _ _ _ (held places l))
+        sym (walk_served _ _ _ held places l)
         ∙ ap (λ (v : Walk). stepped_out ws places (over s (step judge_at candidate_at v window k))) walk_in_lem
 
     next_full : (places : List ℕ) → length places < 10 → next_out s ws window k places ≡ (ws, (places, 9))
-    next_full places l = sym (walk_full _ ws places _ _ _ h.long small inside l)
+    next_full places l = sym (walk_full _ _ _ held places l)
 
     records_full : (places : List ℕ) → length places < 10 → records_out s ws places ≡ (ws, (places, none_handed 9))
-    records_full places l = sym (walk_full _ ws places _ _ _ h.long small inside l)
+    records_full places l = sym (walk_full _ _ _ held places l)
 
     records_finished : (places : List ℕ) → 10 ≤ length places → w.finished ≡ true → records_out s ws places ≡ (ws, (places, rows_handed 0))
     records_finished places l f =
         let e : eqb (get_or ws 1 0) 1 ≡ true = ap (λ (n : ℕ). eqb n 1) (h.marked ∙ ap mark f) in
-        sym (walk_served _ _ _ (held places l)) ∙ simp e
+        sym (walk_served _ _ _ held places l) ∙ simp e
 
     records_served : (places : List ℕ) → 10 ≤ length places → w.finished ≡ false
         → records_out s ws places ≡ records_handed ws places (rows_from (record_at s) (length places / 10) w.position)
     records_served places l f =
         let e : eqb (get_or ws 1 0) 1 ≡ false = ap (λ (n : ℕ). eqb n 1) (h.marked ∙ ap mark f) in
-        sym (walk_served _ _ _ (held places l))
+        sym (walk_served _ _ _ held places l)
         ∙ simp e (ap (λ (p : ℕ). records_handed ws places (rows_from (record_at s) (length places / 10) p)) h.position)
 
   -- rows of records from p on are steps of the walk

@@ -9,7 +9,7 @@ use borrow.Author.Tests.{le-ltb}
 use Rattle.octets.specs.Octets.{part}
 use Rattle.rules.specs.Ask.{over}
 use Rattle.header.specs.Kind.{size}
-use Rattle.header.specs.Read.{header, header_at}
+use Rattle.header.specs.Read.{header_at}
 use Rattle.header.specs.Write.{header_octets}
 use Rattle.header.specs.Frame.{frame_at}
 use Rattle.header.proofs.RoundTrips.{read_octets}

@@ -1,6 +1,5 @@
-use Prim.Native.Nat.{◌≤◌, ◌-◌, min}
 use mathlib.Core.Path.{◌≡◌}
-use lib.ListN.{length, take}
+use lib.ListN.{take}
 use Rattle.octets.specs.Octets.{patch}
 use Rattle.mrt_lent.proofs.hand.put_values.Given as goal
 
