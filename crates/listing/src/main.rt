@@ -29,7 +29,8 @@ fn main(rt: HostRuntime) {
     let _ = rt.write_all(&text[..m]);
 }
 
-// Reads until the room is full, the input ends or a read fails, and answers how many octets stand in the room then.
+// Reads until the room is full, the input ends or a read fails, and answers how many octets stand in the room then. A reader says how many
+// it gave, so there is no index to count. Each program has it: what crates share owes an equation, and none says what a file gives.
 fn read_full<R: Read>(from: &mut R, room: &mut [u8]) -> usize
     ensures { result ≤ length room.new }
 {

@@ -9,7 +9,7 @@ use answer::Refusal;
 use peers_add::PeerId;
 use peers_entry::Peer;
 
-// What adding answers, in numbers.
+// What adding answers, in numbers: as `found_of` of a lookup, and with a definition of its own.
 fn added_as(a: Result<PeerId, Refusal>) -> Found
     ensures { result ≡ added_as (adding a []) }
 {

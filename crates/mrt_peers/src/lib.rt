@@ -18,7 +18,7 @@ pub struct Found {
     pub id: u32,
 }
 
-// What a lookup is asked: how many slots are in use, and the family and the octets of an address.
+// What a lookup is asked: how many slots are in use, and the family, as `find_peer` takes it, and the octets of an address.
 #[derive(Clone, Copy)]
 pub(crate) struct Key {
     count: usize,

@@ -82,7 +82,8 @@ fn open<R: Files>(rt: &R, name: &[u8]) -> Option<R::File> {
     fs::open(rt, path).ok()
 }
 
-// Reads until the room is full, the input ends or a read fails, and answers how many octets stand in the room then.
+// Reads until the room is full, the input ends or a read fails, and answers how many octets stand in the room then. A reader says how many
+// it gave, so there is no index to count. Each program has it: what crates share owes an equation, and none says what a file gives.
 fn read_full<R: Read>(from: &mut R, room: &mut [u8]) -> usize
     ensures { result ≤ length room.new }
 {
@@ -96,7 +97,8 @@ fn read_full<R: Read>(from: &mut R, room: &mut [u8]) -> usize
     n
 }
 
-// How many words the command line has: the list of arguments ends at the first that is missing.
+// How many words the command line has: the list of arguments ends at the first that is missing. Both programs have it and the next, as
+// `read_full`.
 fn arg_count<R: Env>(rt: &R) -> usize {
     let mut none = [];
     for i in 0..usize::MAX {

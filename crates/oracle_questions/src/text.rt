@@ -2,7 +2,8 @@
 // three octets m are m octets more, each as the one d places before it; a space and a line's end are nothing.
 ghost use Rattle.std.specs.Prelude.{◌≤◌, ◌<◌, IfSome};
 
-// The octets of a line from its second sign on, at the front of the room: how many they are, where the line can be read and has room.
+// The octets of a line from its second sign on, at the front of the room: how many they are, where the line can be read and has room. A
+// sign takes one place or more, so the places are no range.
 pub(crate) fn decode(line: &[u8], rec: &mut [u8]) -> Option<usize> {
     let mut at = 1;
     let mut len = 0;

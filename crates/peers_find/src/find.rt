@@ -5,7 +5,7 @@ ghost use Rattle.peers_find.specs.Find.{find_peer, finding, look_up};
 use answer::Refusal;
 use peers_entry::Peer;
 
-// The highest id that holds the key's address.
+// The highest id that holds the key's address. The count stands beside the slots, here and in the calls above: a wrong one is refused.
 pub fn look_up(slots: &[Peer], count: usize, key: Peer) -> Result<u16, Refusal>
     ensures answer { finding result ≡ look_up slots.now count key }
 {
