@@ -37,7 +37,7 @@ pub fn open_rib(body: &[u8], subtype: u16) -> Result<Builder, Refusal>
     if c.left != 0 || c.at != len {
         return Err(Refusal::BodyNotMet);
     }
-    let at = 5 + rib_head::prefix_size(octets::octet(body, 4));
+    let at = rib_head::count_at(body);
     Ok(Builder {
         len,
         at,

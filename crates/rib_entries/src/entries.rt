@@ -32,10 +32,10 @@ pub fn first_entry(body: &[u8], subtype: u16) -> Result<Cursor, Refusal>
     ensures answer { cursor_values result ≡ first_of body.now subtype }
 {
     rib_head::check_rib(body, subtype)?;
-    let size = rib_head::prefix_size(octets::octet(body, 4));
+    let at = rib_head::count_at(body);
     Ok(Cursor {
-        at: 7 + size,
-        left: octets::be16(body, 5 + size),
+        at: at + 2,
+        left: octets::be16(body, at),
     })
 }
 

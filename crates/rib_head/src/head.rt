@@ -2,7 +2,7 @@
 ghost use Rattle.std.specs.Prelude.{◌≡◌, ◌≤◌};
 ghost use Rattle.answer.specs.Refusal.{outcome_number};
 ghost use Rattle.rib_head.specs.Layout.{layout_of, pathed, path_size, prefix_size};
-ghost use Rattle.rib_head.specs.Head.{readable, check_rib};
+ghost use Rattle.rib_head.specs.Head.{count_at, readable, check_rib};
 
 use crate::Layout;
 use answer::Refusal;
@@ -59,6 +59,15 @@ fn is_readable(body: &[u8], most: u8) -> bool
     let bits = octets::octet(body, 4);
     let n = body.len();
     bits <= most && 7 <= n && prefix_size(bits) <= n - 7
+}
+
+// Where the entry count of a body stands.
+#[tactic(auto, unfolding(crate::specs::Head::count_at, crate::specs::Head::bits_of))]
+pub fn count_at(body: &[u8]) -> usize
+    ensures answer { result ≡ count_at body.now }
+    ensures few { result ≤ 37 }
+{
+    5 + prefix_size(octets::octet(body, 4))
 }
 
 // How many octets hold so many bits.

@@ -5,7 +5,7 @@ mod head;
 mod prefix;
 mod times;
 
-pub use head::{check_rib, has_path, layout_of, path_size, prefix_size};
+pub use head::{check_rib, count_at, has_path, layout_of, path_size, prefix_size};
 pub use prefix::clear_after;
 pub use times::age;
 

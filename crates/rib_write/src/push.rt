@@ -34,7 +34,7 @@ pub(crate) fn check_builder(body: &[u8], subtype: u16, b: Builder) -> Result<(),
     ensures { outcome_number result ≡ standing body.now subtype b }
 {
     rib_head::check_rib(body, subtype)?;
-    let at = 5 + rib_head::prefix_size(octets::octet(body, 4));
+    let at = rib_head::count_at(body);
     if b.at != at || b.count != octets::be16(body, at) {
         return Err(Refusal::BodyNotMet);
     }

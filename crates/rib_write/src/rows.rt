@@ -21,10 +21,7 @@ pub fn push_entries(
     ensures answer { rows_values result out.new
         ≡ push_entries out.old subtype b rows.now attributes.now }
 {
-    if rows.len() % 5 != 0 {
-        return Err(Refusal::Beyond);
-    }
-    if out.len() < b.len {
+    if rows.len() % 5 != 0 || out.len() < b.len {
         return Err(Refusal::Beyond);
     }
     check_builder(&out[..b.len], subtype, b)?;
