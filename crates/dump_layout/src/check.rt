@@ -10,9 +10,7 @@ use answer::Refusal;
 pub fn check_dump(body: &[u8], subtype: u16) -> Result<(), Refusal>
     ensures answer { outcome_number result ≡ check_dump body.now subtype }
 {
-    let Some(x) = octets_address::address_size(subtype) else {
-        return Err(Refusal::OtherSubtype);
-    };
+    let x = octets_address::address_size(subtype).ok_or(Refusal::OtherSubtype)?;
     if !is_filled(body, x) {
         return Err(Refusal::BodyNotMet);
     }

@@ -11,7 +11,7 @@ use answer::Refusal;
 use dump_layout::Dump;
 
 // A body at the front of the lent output.
-#[tactic(auto, using(octets_address::proofs::Addresses::found_le))]
+#[tactic(auto, using(octets_address::proofs::Addresses::found_le, crate::proofs::Answers::write_other))]
 pub fn write_dump(
     out: &mut [u8],
     subtype: u16,
@@ -20,9 +20,7 @@ pub fn write_dump(
 ) -> Result<usize, Refusal>
     ensures answer { wrote result out.new ≡ write_dump out.old subtype d attributes.now }
 {
-    let Some(x) = octets_address::address_size(subtype) else {
-        return Err(Refusal::OtherSubtype);
-    };
+    let x = octets_address::address_size(subtype).ok_or(Refusal::OtherSubtype)?;
     if 8 * x < d.bits as usize {
         return Err(Refusal::TooLarge);
     }
@@ -51,16 +49,13 @@ fn put_fields(out: &mut [u8], x: usize, d: Dump, asn: u16, count: u16)
     requires { (size_of (eqb x 16) ≡ x) × (attributes_at x ≤ length out.old) × (asn ≡ d.asn) }
     ensures { out.new ≡ patch out.old 0 (head_octets x d count) }
 {
-    let prefix = d.prefix;
-    let peer = d.peer;
-    let bits = d.bits;
     octets::put_be16(out, 0, d.view);
     octets::put_be16(out, 2, d.sequence);
-    octets_address::put_address(out, 4, prefix, x == 16);
-    octets::put_octet(out, 4 + x, bits);
+    octets_address::put_address(out, 4, d.prefix, x == 16);
+    octets::put_octet(out, 4 + x, d.bits);
     octets::put_octet(out, 5 + x, d.status);
     octets::put_be32(out, 6 + x, d.originated);
-    octets_address::put_address(out, 10 + x, peer, x == 16);
+    octets_address::put_address(out, 10 + x, d.peer, x == 16);
     octets::put_be16(out, 10 + 2 * x, asn);
     octets::put_be16(out, 12 + 2 * x, count);
 }

@@ -18,8 +18,7 @@ pub fn judge_record(s: &[u8], at: usize) -> Result<Located, Refusal>
     }
     match judge_at(s, at) {
         Verdict::Fit(frame) => Ok(Located { start: at, frame }),
-        Verdict::Off { refusal, end: _ } => Err(refusal),
-        Verdict::Cut(refusal) => Err(refusal),
+        Verdict::Off { refusal, end: _ } | Verdict::Cut(refusal) => Err(refusal),
     }
 }
 

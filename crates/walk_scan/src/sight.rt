@@ -24,10 +24,7 @@ pub fn scan(s: &[u8], p: usize, window: usize, more: u8) -> Option<Found>
             from: d,
             last,
         };
-        let Some(next) = ahead.pass_over() else {
-            return None;
-        };
-        d = next;
+        d = ahead.pass_over()?;
         let offset = p + d;
         let mut evidence = Evidence::Message;
         let mut at = offset;

@@ -53,7 +53,7 @@ pub fn next(s: &[u8], w: &mut Walk, window: usize, asked: u8) -> WalkAnswer
     after.answer
 }
 
-// The walk goes on at p. This and the next one are two names for a mark, which is read at five places.
+// The walk goes on at p. This and the next one are two names for a mark, which is read at six places.
 pub(crate) fn go_on(p: usize, answer: WalkAnswer) -> Stepped
     ensures { stepped result ≡ moved p (said answer) }
 {

@@ -7,5 +7,5 @@ returns-in-Fit c = record { answer = judgement-within _ _ c.if-s-at.false c.in-F
 pub returns-in-Off : goal.returns-in-Off
 returns-in-Off c = record { answer = judgement-within _ _ c.if-s-at.false c.in-Off.ensures.answer }
 
-pub returns-in-Cut : goal.returns-in-Cut
-returns-in-Cut c = record { answer = judgement-within _ _ c.if-s-at.false c.in-Cut.ensures.answer }
+pub returns-in-Off-2 : goal.returns-in-Off-2
+returns-in-Off-2 c = record { answer = judgement-within _ _ c.if-s-at.false c.in-Off.ensures.answer }
