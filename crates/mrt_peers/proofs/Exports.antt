@@ -5,7 +5,7 @@ use mathlib.Core.List.{[], List}
 use mathlib.Core.Bool.{Bool, true, false}
 use lib.ListN.{length}
 use lib.Dec.{ltb, eqb}
-use Rattle.std.specs.Prelude.{Result, Ok, Err}
+use Rattle.std.specs.Prelude.{Result, Ok, Err, MatchResult}
 use Rattle.answer.specs.declared.Refusal.{Refusal}
 use Rattle.mrt_lent.specs.Export.{sixteen_of}
 use Rattle.peers_entry.specs.declared.Peer.{Peer}
@@ -13,7 +13,7 @@ use Rattle.peers_slots.specs.Used.{wrong_count}
 use Rattle.peers_add.specs.Add.{adding, add_peer}
 use Rattle.peers_add.specs.declared.PeerId.{PeerId}
 use Rattle.peers_add.specs.declared.PeerId.TheVariants.{Known, Added}
-use Rattle.peers_find.specs.Find.{Finding, look_up, find_peer}
+use Rattle.peers_find.specs.Find.{Finding, finding, look_up, find_peer}
 use Rattle.mrt_peers.specs.Add.{added_as, added_out, add_out}
 use Rattle.mrt_peers.specs.Given.{count_for, key_for, peer_for, fresh_of}
 use Rattle.mrt_peers.specs.Find.{found_of, find_out}
@@ -74,6 +74,13 @@ module _ (l : List Peer) (count kind : ℕ) (addr : List ℕ) where
       ∙ looks
 
 -- ---- a peer added
+-- its id, answered as that of a lookup
+pub found_added : (r : Result PeerId Refusal) (m : Result ℕ Refusal) {n : Found}
+    → MatchResult r (λ p. m ≡ Ok (adding (Ok p) []).id) (λ e. m ≡ Err e) → n ≡ found_of (finding m) → n ≡ added_as (adding r [])
+found_added (Ok (Known id)) m h e = e ∙ ap (λ x. found_of (finding x)) h
+found_added (Ok (Added id)) m h e = e ∙ ap (λ x. found_of (finding x)) h
+found_added (Err why) m h e = e ∙ ap (λ x. found_of (finding x)) h
+
 same_answer : (r : Result PeerId Refusal) (l : List Peer) → (l, added_as (adding r [])) ≡ added_out (adding r l)
 same_answer (Ok (Known id)) l = refl
 same_answer (Ok (Added id)) l = refl

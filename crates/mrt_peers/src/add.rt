@@ -1,27 +1,20 @@
 // A peer added.
-ghost use Rattle.std.specs.Prelude.{◌≡◌, []};
+ghost use Rattle.std.specs.Prelude.{◌≡◌, [], Ok};
 ghost use Rattle.peers_add.specs.Add.{adding};
-ghost use Rattle.mrt_peers.specs.Add.{add_out, added_as};
+ghost use Rattle.mrt_peers.specs.Add.{add_out};
 
 use crate::Found;
+use crate::find::found_of;
 use crate::given::fresh_of;
-use answer::Refusal;
 use peers_add::PeerId;
 use peers_entry::Peer;
 
-// What adding answers, in numbers: as `found_of` of a lookup, and with a definition of its own.
-fn added_as(a: Result<PeerId, Refusal>) -> Found
-    ensures { result ≡ added_as (adding a []) }
+// The id of a peer, whether it was known or added.
+fn id_of(id: PeerId) -> u16
+    ensures { result ≡ (adding (Ok id) []).id }
 {
-    match a {
-        Ok(PeerId::Known(id) | PeerId::Added(id)) => Found {
-            refusal: 0,
-            id: id as u32,
-        },
-        Err(r) => Found {
-            refusal: mrt_lent::refusal(r),
-            id: 0,
-        },
+    match id {
+        PeerId::Known(id) | PeerId::Added(id) => id,
     }
 }
 
@@ -37,5 +30,5 @@ pub fn mrt_add_peer(
     ensures answer { (slots.new, result) ≡ add_out slots.old count kind id addr.now asn }
 {
     let fresh = fresh_of(count, kind, id, addr, asn);
-    added_as(peers_add::add_peer(slots, fresh.count, fresh.peer))
+    found_of(peers_add::add_peer(slots, fresh.count, fresh.peer).map(id_of))
 }

@@ -8,8 +8,8 @@ use crate::given::key_for;
 use answer::Refusal;
 use peers_entry::Peer;
 
-// What a lookup answers, in numbers.
-fn found_of(a: Result<u16, Refusal>) -> Found
+// What a lookup and an addition answer, in numbers.
+pub(crate) fn found_of(a: Result<u16, Refusal>) -> Found
     ensures { result ≡ found_of (finding a) }
 {
     match a {

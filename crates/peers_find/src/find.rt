@@ -10,12 +10,13 @@ pub fn look_up(slots: &[Peer], count: usize, key: Peer) -> Result<u16, Refusal>
     ensures answer { finding result ≡ look_up slots.now count key }
 {
     let used = peers_slots::in_use(slots.len(), count);
-    for i in (0..used).rev() {
-        if peers_entry::same_address(slots[i], key) {
-            return Ok(i as u16);
-        }
+    match slots[..used]
+        .iter()
+        .rposition(|s| peers_entry::same_address(*s, key))
+    {
+        Some(id) => Ok(id as u16),
+        None => Err(Refusal::Beyond),
     }
-    Err(Refusal::Beyond)
 }
 
 // The highest id that holds an address, given by its family and its octets.

@@ -17,9 +17,9 @@ pub fn load_peers(body: &[u8], slots: &mut [Peer]) -> Result<TableHead, Refusal>
         return Err(Refusal::NoRoom);
     }
     let mut at = head.first;
-    for i in 0..count {
+    for slot in &mut slots[..count] {
         let got = peers_entry::read_peer(body, at).unwrap();
-        slots[i] = got.peer;
+        *slot = got.peer;
         at = got.next;
     }
     Ok(head)

@@ -1,4 +1,5 @@
-use Rattle.std.proofs.Common.{◌≡◌, arith, Ok}
+use Rattle.std.proofs.Common.{◌≡◌, sym, ◌∙◌, arith, Ok}
+use Rattle.std.proofs.lemmas.List.{length-take-le, set-append_left, take-append-drop}
 use Rattle.std.proofs.lemmas.Result.{err_from_is_err_and}
 use Rattle.peers_table.specs.Table.{heading}
 use Rattle.peers_table.proofs.Tables.{end_none}
@@ -19,24 +20,27 @@ returns-then-slots-count c = record {
       (filled_none _ _ _);
 }
 
-pub loop-i-init : goal.loop-i-init
-loop-i-init c = (filled_none _ _ _, end_none _ _)
+pub loop-slot-init : goal.loop-slot-init
+loop-slot-init c = (take-append-drop _ _ ∙ filled_none _ _ _, end_none _ _)
 
 pub unwrap-got-requires : goal.unwrap-got-requires
 unwrap-got-requires c =
-    filled_read _ c.args.slots.now _ _ c.loop-i.invariant.1
-    (head-holds _ (heading (Ok c.in_ok-head.head)) c.in_ok-head.ensures.answer _ c.loop-i-test.true) _ c.read_peer.ensures.answer
+    filled_read _ c.args.slots.now _ _ c.loop-slot.invariant.1
+    (head-holds _ (heading (Ok c.in_ok-head.head)) c.in_ok-head.ensures.answer _
+    (omega (arith, length-take-le _ _ c.if-slots-count.false))) _ c.read_peer.ensures.answer
 
-pub loop-i-preserved : goal.loop-i-preserved
-loop-i-preserved c =
-    filled_turn _ _ _ _ c.loop-i.invariant.1
-    (head-holds _ (heading (Ok c.in_ok-head.head)) c.in_ok-head.ensures.answer _ c.loop-i-test.true) _ c.unwrap-got.ensures
-    c.read_peer.ensures.answer c.loop-i.invariant.0
+pub loop-slot-preserved : goal.loop-slot-preserved
+loop-slot-preserved c =
+    let turn = filled_turn _ _ _ _ c.loop-slot.invariant.1
+    (head-holds _ (heading (Ok c.in_ok-head.head)) c.in_ok-head.ensures.answer _
+    (omega (arith, length-take-le _ _ c.if-slots-count.false))) _ c.unwrap-got.ensures
+    c.read_peer.ensures.answer c.loop-slot.invariant.0 in
+    (sym (set-append_left c.loop-slot.slot-items _ _ _ (omega arith)) ∙ turn.0, turn.1)
 
 pub returns : goal.returns
 returns c = record {
   answer =
-      let i : c.loop-i.i ≡ c.in_ok-head.head.count = omega arith in
+      let i : c.loop-slot.slot-index ≡ c.in_ok-head.head.count = omega (arith, length-take-le _ _ c.if-slots-count.false) in
       load_is _ _ _ (heading (Ok c.in_ok-head.head)) (head-whole _ _ (heading (Ok c.in_ok-head.head)) c.in_ok-head.ensures.answer
-      c.if-slots-count.false) (rw i at c.loop-i.invariant.0);
+      c.if-slots-count.false) (rw i at c.loop-slot.invariant.0);
 }
