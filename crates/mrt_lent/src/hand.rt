@@ -9,7 +9,7 @@ use crate::Handed;
 use answer::Refusal;
 
 // The values at the front of the lent places, as far as there are places. One by one: the library's copy is a call, which takes longer
-// than ten stores.
+// than ten stores. By an index: of places that are written through a zip of `iter_mut`, a proof knows how many they are and no more.
 pub fn put_values(out: &mut [u64], values: &[u64])
     ensures { out.new ≡ patch out.old 0 values.now }
 {

@@ -17,14 +17,11 @@ pub fn builder_in(places: &[u64]) -> Option<Builder>
     if places.len() < 3 {
         return None;
     }
-    let count = places[2];
-    if 65535 < count {
-        return None;
-    }
+    let count = u16::try_from(places[2]).ok()?;
     Some(Builder {
         len: places[0] as usize,
         at: places[1] as usize,
-        count: count as u16,
+        count,
     })
 }
 
