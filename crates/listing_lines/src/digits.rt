@@ -1,8 +1,9 @@
-// Numbers in lent octets, as a line has them. What has no room is dropped; where the text ends is counted all the same.
-ghost use Rattle.std.specs.Prelude.{◌≡◌, ◌+◌, ◌*◌, ◌<◌, [], ◌∷◌, length};
+// Lines of text in lent octets, with their numbers. What has no room is dropped; where the text ends is counted all the same.
+ghost use Rattle.std.specs.Prelude.{◌≡◌, ◌+◌, ◌*◌, ◌^◌, ◌<◌, [], ◌∷◌, length};
 ghost use Rattle.listing_lines.specs.Listing.{wrote, decimal, field, fields};
 
-// Lent octets, and where the next one of a text goes.
+// Lent octets, and where the next one of a text goes. How far a method moves that depends on what it writes, so each asks for as much as
+// keeps it a `usize`: no fact of the struct alone could.
 #[derive(Drop)]
 pub(crate) struct Text<'a> {
     pub(crate) out: &'a mut [u8],
@@ -11,7 +12,7 @@ pub(crate) struct Text<'a> {
 
 impl Text<'_> {
     fn put_octet(&mut self, v: u8)
-        requires { self.old.at + 1 < 18446744073709551616 }
+        requires { self.old.at + 1 < 2 ^ 64 }
         ensures same { self.new.out.ghost_name ≡ self.old.out.ghost_name }
         ensures text { (self.new.out.now, self.new.at) ≡ wrote self.old.out.now self.old.at (v ∷ []) }
     {
@@ -21,7 +22,7 @@ impl Text<'_> {
 
     // A number's digits.
     fn put_decimal(&mut self, v: usize)
-        requires { self.old.at + 20 < 18446744073709551616 }
+        requires { self.old.at + 20 < 2 ^ 64 }
         ensures same { self.new.out.ghost_name ≡ self.old.out.ghost_name }
         ensures text { (self.new.out.now, self.new.at) ≡ wrote self.old.out.now self.old.at (decimal 20 v) }
     {
@@ -35,7 +36,7 @@ impl Text<'_> {
 
     // A tab and a number.
     fn put_field(&mut self, v: usize)
-        requires { self.old.at + 21 < 18446744073709551616 }
+        requires { self.old.at + 21 < 2 ^ 64 }
         ensures same { self.new.out.ghost_name ≡ self.old.out.ghost_name }
         ensures text { (self.new.out.now, self.new.at) ≡ wrote self.old.out.now self.old.at (field v) }
     {
@@ -45,7 +46,7 @@ impl Text<'_> {
 
     // A line: a letter, the numbers, a newline.
     pub(crate) fn put_line(&mut self, letter: u8, values: &[usize])
-        requires { self.old.at + (2 + 21 * length values.now) < 18446744073709551616 }
+        requires { self.old.at + (2 + 21 * length values.now) < 2 ^ 64 }
         ensures same { self.new.out.ghost_name ≡ self.old.out.ghost_name }
         ensures text { (self.new.out.now, self.new.at)
             ≡ wrote self.old.out.now self.old.at (fields letter values.now) }

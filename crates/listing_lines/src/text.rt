@@ -1,8 +1,8 @@
 // The listing of a whole stream.
-ghost use Rattle.std.specs.Prelude.{◌≡◌, ◌+◌, ◌<◌, ◌≤◌, ◌++◌, length};
-ghost use Rattle.walk_missing.specs.Row.{told, counted, untold};
+ghost use Rattle.std.specs.Prelude.{◌≡◌, ◌+◌, ◌^◌, ◌<◌, length};
+ghost use Rattle.walk_missing.specs.Row.{told, counted};
 ghost use Rattle.walk_step.specs.Answers.{said};
-ghost use Rattle.listing_lines.specs.Listing.{wrote, fields, missing_line, lines, Within, counting, is_last, listing, listed, room};
+ghost use Rattle.listing_lines.specs.Listing.{wrote, missing_line, lines, Within, counting, is_last, listing, listed, room};
 
 use crate::digits::Text;
 use header::Located;
@@ -21,7 +21,7 @@ pub fn list(s: &[u8], out: &mut [u8]) -> usize
 impl Text<'_> {
     // The listing of a stream.
     fn put_listing(&mut self, s: &[u8])
-        requires { self.old.at + room < 18446744073709551616 }
+        requires { self.old.at + room < 2 ^ 64 }
         ensures same { self.new.out.ghost_name ≡ self.old.out.ghost_name }
         ensures text { (self.new.out.now, self.new.at) ≡ wrote self.old.out.now self.old.at (listing s.now) }
     {
@@ -47,7 +47,7 @@ impl Text<'_> {
 
     // The lines of one answer, with what is told of a record.
     fn put_answer(&mut self, answer: WalkAnswer, missing: Missing)
-        requires { self.old.at + 151 < 18446744073709551616 }
+        requires { self.old.at + 151 < 2 ^ 64 }
         ensures same { self.new.out.ghost_name ≡ self.old.out.ghost_name }
         ensures text { (self.new.out.now, self.new.at)
             ≡ wrote self.old.out.now self.old.at (lines (said answer) (told missing)) }
@@ -83,7 +83,7 @@ impl Text<'_> {
 
     // The line of the rows missing before a record, where anything is told of them.
     fn put_missing(&mut self, start: usize, missing: Missing)
-        requires { self.old.at + 65 < 18446744073709551616 }
+        requires { self.old.at + 65 < 2 ^ 64 }
         ensures same { self.new.out.ghost_name ≡ self.old.out.ghost_name }
         ensures text { (self.new.out.now, self.new.at)
             ≡ wrote self.old.out.now self.old.at (missing_line start (told missing)) }
@@ -106,10 +106,7 @@ fn count_answer(s: &[u8], c: Counters, answer: WalkAnswer) -> Counted
         let header = frame.head.header;
         return walk_missing::count(c, header.kind, header.subtype, &s[frame.body..frame.end]);
     }
-    Counted {
-        counters: c,
-        missing: Missing::Nothing,
-    }
+    walk_missing::untold(c)
 }
 
 // Whether a walk gives no other answer after this one.

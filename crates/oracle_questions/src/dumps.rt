@@ -1,6 +1,6 @@
 // TABLE_DUMP bodies, read and written.
 use crate::headers::put_written;
-use crate::put::{lend, numbers, part, refused, sixteen};
+use crate::put::{front, lend, numbers, part, refused, sixteen};
 use dump_layout::Dump;
 
 // x: the subtype.
@@ -33,18 +33,14 @@ pub(crate) fn read(a: &[u8], x: &[u8], out: &mut [u8]) -> usize {
 // a: the output before. b: the prefix, the peer's address, the attributes. x: subtype, view, sequence, prefix bits, status,
 // originated time, AS.
 pub(crate) fn write(a: &[u8], b: &[u8], x: &[u8], out: &mut [u8]) -> usize {
-    let mut prefix = [0u8; 16];
-    octets_copies::put_octets(&mut prefix, 0, part(b, 0, 16));
-    let mut peer = [0u8; 16];
-    octets_copies::put_octets(&mut peer, 0, part(b, 16, 16));
     let d = Dump {
         view: octets::be16(x, 14),
         sequence: octets::be16(x, 22),
-        prefix,
+        prefix: front(b),
         bits: octets::octet(x, 31),
         status: octets::octet(x, 39),
         originated: octets::be32(x, 44),
-        peer,
+        peer: front(part(b, 16, 16)),
         asn: octets::be32(x, 52),
     };
     let n = lend(out, a);

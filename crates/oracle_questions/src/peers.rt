@@ -1,5 +1,5 @@
 // Peer tables, and one peer at a time.
-use crate::put::{lend, number, numbers, refused, sixteen};
+use crate::put::{front, lend, number, numbers, refused, sixteen};
 use answer::Refusal;
 use peers_entry::{Peer, PeerRead};
 use peers_table::TableHead;
@@ -64,12 +64,10 @@ pub(crate) fn read(a: &[u8], x: &[u8], out: &mut [u8]) -> usize {
 
 // a: the output before. b: the address. x: the offset, type, id, AS.
 pub(crate) fn write(a: &[u8], b: &[u8], x: &[u8], out: &mut [u8]) -> usize {
-    let mut addr = [0u8; 16];
-    octets_copies::put_octets(&mut addr, 0, b);
     let p = Peer {
         kind: octets::octet(x, 15),
         id: octets::be32(x, 20),
-        addr,
+        addr: front(b),
         asn: octets::be32(x, 28),
     };
     let n = lend(out, a);

@@ -34,10 +34,16 @@ pub(crate) fn lend(out: &mut [u8], s: &[u8]) -> usize
     s.len().min(out.len())
 }
 
+// The first N octets, each 0 that is not there.
+pub(crate) fn front<const N: usize>(s: &[u8]) -> [u8; N] {
+    let mut octets = [0u8; N];
+    octets_copies::put_octets(&mut octets, 0, s);
+    octets
+}
+
 // The number i.
 pub(crate) fn number(s: &[u8], i: u8) -> usize {
-    let at = 8 * i as usize;
-    octets::be32(s, at) as usize * 4294967296 + octets::be32(s, at + 4) as usize
+    usize::from_be_bytes(front(part(s, 8 * i as usize, 8)))
 }
 
 // The octets from a place on, as many as there are of so many.

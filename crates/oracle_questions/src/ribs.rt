@@ -1,6 +1,6 @@
 // RIB bodies, read and written.
 use crate::headers::put_written;
-use crate::put::{lend, number, numbers, part, refused, sixteen};
+use crate::put::{front, lend, number, numbers, part, refused, sixteen};
 use answer::Refusal;
 use rib_entries::{Cursor, Entry};
 use rib_write::{Builder, NewEntry};
@@ -82,13 +82,11 @@ pub(crate) fn age(x: &[u8], out: &mut [u8]) -> usize {
 
 // a: the output before. b: the prefix. x: subtype, sequence, prefix bits.
 pub(crate) fn begin(a: &[u8], b: &[u8], x: &[u8], out: &mut [u8]) -> usize {
-    let mut prefix = [0u8; 16];
-    octets_copies::put_octets(&mut prefix, 0, b);
     let subtype = octets::be16(x, 6);
     let sequence = octets::be32(x, 12);
     let bits = octets::octet(x, 23);
     let n = lend(out, a);
-    let w = rib_begin::begin_rib(&mut out[..n], subtype, sequence, bits, prefix);
+    let w = rib_begin::begin_rib(&mut out[..n], subtype, sequence, bits, front(b));
     put_written(out, n, w)
 }
 

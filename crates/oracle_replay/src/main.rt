@@ -44,14 +44,8 @@ fn replay_named<R: Env + Files + Print>(rt: &R, rooms: &mut Rooms) {
 }
 
 // How many of the named streams are listed otherwise.
-fn replay_all<R: Env + Files + Print>(rt: &R, words: usize, rooms: &mut Rooms) -> u64 {
-    let mut wrong = 0;
-    for i in 1..words {
-        if !replay(rt, i, rooms) {
-            wrong += 1;
-        }
-    }
-    wrong
+fn replay_all<R: Env + Files + Print>(rt: &R, words: usize, rooms: &mut Rooms) -> usize {
+    (1..words).filter(|i| !replay(rt, *i, rooms)).count()
 }
 
 // Whether the stream of argument i is listed as it should be. The name of one that is not is written.

@@ -4,7 +4,7 @@
 mod row;
 mod turned;
 
-pub use row::{count, fresh};
+pub use row::{count, fresh, untold};
 
 // The last sequence number of type 13 and that of type 12, where a record of it was counted after the last peer table. Marks beside the
 // numbers, and no Options: a lent number keeps its value beside a mark of 0.

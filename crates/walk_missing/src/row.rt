@@ -30,7 +30,7 @@ pub fn count(c: Counters, kind: u16, subtype: u16, body: &[u8]) -> Counted
 }
 
 // Nothing is told of a record, whatever the counters are after it.
-fn untold(c: Counters) -> Counted
+pub fn untold(c: Counters) -> Counted
     ensures { counted result ≡ untold_rule c }
 {
     Counted {
