@@ -18,7 +18,7 @@ use walk_step::WalkAnswer;
 // The next answer of a walk that is lent as its position and its finished mark. Room for every answer is asked for before the
 // walk moves, so that no answer is lost.
 // A record that passes is the usual answer: it is handed out first, and needs nothing of the search.
-#[tactic(auto, using(crate::proofs::Walks::next_handed), unfolding(mrt_lent::specs::Walks::on_walk, mrt_lent::specs::Walks::holds_walk))]
+#[tactic(auto, unfolding(mrt_lent::specs::Walks::on_walk, mrt_lent::specs::Walks::holds_walk))]
 pub fn mrt_next(s: &[u8], walk: &mut [u64], window: usize, asked: u8, out: &mut [u64]) -> u32
     ensures answer { (walk.new, (out.new, result))
         ≡ next_out s.now walk.old window asked out.old }
