@@ -2,7 +2,7 @@
 // answers.
 #![tactic(auto)]
 
-ghost use Rattle.std.specs.Prelude.{◌≡◌, ◌+◌, ◌≤◌, leb, length, take};
+ghost use Rattle.std.specs.Prelude.{◌≡◌, ◌+◌, ◌*◌, ◌<◌, ◌≤◌, leb, length, take};
 ghost use Rattle.octets.specs.Octets.{bytes_of, part, patch};
 
 // Whether m octets from an offset on lie within n.
@@ -40,7 +40,8 @@ pub fn store32(out: &mut [u8], at: usize, v: u32)
     store(out, at, u32::to_be_bytes(v));
 }
 
-// Copies octets: 16 to 128 of them, as most attributes have, by blocks, which take less time than the library's copy.
+// Copies octets: up to 128 of them, as most attributes have, by blocks whose length is written out. The library's copy of any other length
+// would have whoever links the archive bring `memmove` for it.
 pub fn put_octets(out: &mut [u8], at: usize, src: &[u8])
     ensures { out.new ≡ patch out.old at src.now }
 {
@@ -49,11 +50,47 @@ pub fn put_octets(out: &mut [u8], at: usize, src: &[u8])
         return;
     }
     let m = (n - at).min(src.len());
-    if m < 16 || 128 < m {
-        out[at..at + m].copy_from_slice(&src[..m]);
-        return;
+    if m < 16 {
+        put_few(out, at, src, m);
+    } else if m <= 128 {
+        put_eight(out, at, src, m);
+    } else {
+        put_each(out, at, src, m);
     }
-    put_eight(out, at, src, m);
+}
+
+// Copies fewer than sixteen octets.
+#[tactic(auto, unfolding(octets::specs::Octets::patch))]
+fn put_few(out: &mut [u8], at: usize, src: &[u8], m: usize)
+    requires { (m < 16) × (at + m ≤ length out.old) × (m ≤ length src.now) }
+    ensures { out.new ≡ patch out.old at (take m src.now) }
+{
+    match m {
+        0 => {}
+        1..=2 => put_both::<1>(out, at, src, m),
+        3..=4 => put_both::<2>(out, at, src, m),
+        5..=8 => put_both::<4>(out, at, src, m),
+        _ => put_both::<8>(out, at, src, m),
+    }
+}
+
+// Copies m octets as two blocks, the second at the end, over octets of the first.
+fn put_both<const N: usize>(out: &mut [u8], at: usize, src: &[u8], m: usize)
+    requires { (N ≤ m) × (m ≤ 2 * N) × (at + m ≤ length out.old) × (m ≤ length src.now) }
+    ensures { out.new ≡ patch out.old at (take m src.now) }
+{
+    put_block::<N>(out, at, src, 0);
+    put_block::<N>(out, at + (m - N), src, m - N);
+}
+
+// Copies m octets one by one.
+fn put_each(out: &mut [u8], at: usize, src: &[u8], m: usize)
+    requires { (at + m ≤ length out.old) × (m ≤ length src.now) }
+    ensures { out.new ≡ patch out.old at (take m src.now) }
+{
+    for i in 0..m {
+        out[at + i] = src[i];
+    }
 }
 
 // Copies 16 to 128 octets as eight blocks, the later ones at the end, over octets that are stored already: as many for every length, so
@@ -65,16 +102,16 @@ fn put_eight(out: &mut [u8], at: usize, src: &[u8], m: usize)
     let last = m - 16;
     for i in 0..8 {
         let j = last.min(16 * i);
-        put_sixteen(out, at + j, src, j);
+        put_block::<16>(out, at + j, src, j);
     }
 }
 
-// Copies the sixteen octets that stand at an offset. All are read before one is stored, so that they are one load and one store.
-fn put_sixteen(out: &mut [u8], to: usize, src: &[u8], at: usize)
-    requires { (to + 16 ≤ length out.old) × (at + 16 ≤ length src.now) }
-    ensures { out.new ≡ patch out.old to (part src.now at 16) }
+// Copies the N octets that stand at an offset. All are read before one is stored, so that they are one load and one store.
+fn put_block<const N: usize>(out: &mut [u8], to: usize, src: &[u8], at: usize)
+    requires { (to + N ≤ length out.old) × (at + N ≤ length src.now) }
+    ensures { out.new ≡ patch out.old to (part src.now at N) }
 {
-    let mut block = [0u8; 16];
-    block.copy_from_slice(&src[at..at + 16]);
-    out[to..to + 16].copy_from_slice(&block);
+    let mut block = [0u8; N];
+    block.copy_from_slice(&src[at..at + N]);
+    out[to..to + N].copy_from_slice(&block);
 }

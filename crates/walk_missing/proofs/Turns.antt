@@ -129,10 +129,12 @@ module _ (w e l : ℕ) (he : e < 2 ^ w) (hl : l < 2 ^ w) where
       all m s = let r : e + 2 ^ w - 2 ^ w ≡ e = omega arith in
           (omega arith, rw s (mod-eq-sub-mod (omega arith) ∙ rw r (mod-eq_of_lt he ∙ q)))
 
--- the difference as code takes it: the earlier number is taken from 2^w first, so that nothing is taken from less
-pub less-apart : (w e l : ℕ) → e < 2 ^ w → (l + (2 ^ w - e)) % 2 ^ w ≡ apart w e l
-unfolding apart
-less-apart w e l h = ap (λ (x : ℕ). x % 2 ^ w) (omega arith)
+-- the difference as code takes it leads to the later number: the earlier one is taken from 2^w first, so that nothing is taken from less
+pub less-back : (w e l : ℕ) → e < 2 ^ w → l < 2 ^ w → ((l + (2 ^ w - e)) % 2 ^ w + e) % 2 ^ w ≡ l
+less-back w e l he hl =
+    let q : l + (2 ^ w - e) ≡ 2 ^ w + l - e = omega arith in
+    let c : (2 ^ w + l - e) % 2 ^ w + e ≡ e + (2 ^ w + l - e) % 2 ^ w = omega arith in
+    rw (q, c) (back (2 ^ w) e l he hl)
 
 -- a counter whose width is known to be that of b
 module _ (narrow b : Bool) (f : narrow ≡ b) where

@@ -18,5 +18,5 @@ loop-i-preserved c =
       c.min-j.result + 16,
       omega arith,
       copy_over _ _ _ inv.0 c.min-j.result 16
-          (omega arith) (omega arith) (omega arith) (omega arith) inv.2 c.put_sixteen.ensures,
+          (omega arith) (omega arith) (omega arith) (omega arith) inv.2 c.put_block.ensures,
     )
